@@ -1,2 +1,5 @@
 pub mod Standing
 pub mod Lying
+pub mod Ranges
+pub mod Covering
+pub mod Classing

@@ -8,6 +8,7 @@ use Rattle.std.specs.declared.result.Result.{Result}
 use Rattle.std.specs.declared.result.Result.the-variants.{Ok, Err}
 use Rattle.std.proofs.shelf.Lists.{length-drop, drop-drop, getD-drop}
 use Rattle.std.proofs.shelf.Ways.{tells}
+use Rattle.spec.specs.Lists.{numbers}
 use Rattle.spec.specs.Fields.{big-endian, field, Stand}
 
 field-at : (bs back : List ℕ) (k w : ℕ) → drop k bs ≡ w / 256 ∷ w % 256 ∷ back → field bs k ≡ Ok w
@@ -46,3 +47,13 @@ stand-parts bs k (u ∷ us) ws h =
     let r = stand-parts bs (k + 2) us ws (h .1) in
     let e : k + 2 + 2 * length us ≡ k + 2 * length (u ∷ us) = omega arith in
     ((h .0, r .0), subst (λ n. Stand bs n ws) e (r .1))
+
+-- fields made from numbers in a row
+pub length-map-numbers : {A : Type 0} (f : ℕ → A) (i n : ℕ) → length (map f (numbers i n)) ≡ n
+length-map-numbers f i zero = refl
+length-map-numbers f i (suc n) = ap suc (length-map-numbers f (i + 1) n)
+
+pub getD-map-numbers : {A : Type 0} (f : ℕ → A) (i n j : ℕ) (d : A) → j < n → getD (map f (numbers i n)) j d ≡ f (i + j)
+getD-map-numbers f i zero j d l = absurd (omega arith)
+getD-map-numbers f i (suc n) zero d l = ap f (omega arith)
+getD-map-numbers f i (suc n) (suc j) d l = getD-map-numbers f (i + 1) n j d (omega arith) ∙ ap f (omega arith)

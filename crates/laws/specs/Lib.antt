@@ -1,1 +1,4 @@
+pub mod Conditions
+pub mod Descriptions
 pub mod Tables
+pub mod Parts

@@ -1,0 +1,25 @@
+-- Each part of a subtable reads back, wherever in the bytes it stands.
+use mathlib.Core.Path.{_≡_}
+use mathlib.Core.List.{List, [], _∷_, map}
+use Prim.Native.Nat.{ℕ, _<_}
+use lib.IntN.{pos}
+use lib.ListN.{length}
+use Rattle.std.specs.declared.result.Result.{Result}
+use Rattle.std.specs.declared.result.Result.the-variants.{Ok}
+use Rattle.spec.specs.Lists.{Every}
+use Rattle.spec.specs.Fields.{Stand}
+use Rattle.spec.specs.Coverage.{coverage-index}
+use Rattle.spec.specs.Classes.{class-at}
+use Rattle.spec.specs.Bytes.{Table, Lies, coverage, class-def}
+use Rattle.spec.specs.Meaning.{covered, class}
+use Rattle.laws.specs.Conditions.{Rising}
+
+-- a coverage table gives each glyph its place among the covered glyphs, or none. They need not rise: of a glyph that is listed
+-- twice it is the first place
+abbrev pub Coverage-reads : Type 0
+Coverage-reads = (bs : List ℕ) (at : ℕ) (gs : List ℕ) (g : ℕ) → Lies bs at (coverage gs) → covered bs at g ≡ Ok (coverage-index gs g)
+
+-- a class definition gives each glyph the class listed for it, or 0. The glyphs listed must rise, since format 1 lists all between
+-- the first and the last
+abbrev pub Class-reads : Type 0
+Class-reads = (bs : List ℕ) (at : ℕ) (ps : List (ℕ × ℕ)) (g : ℕ) → Rising (map (λ p. p .0) ps) → Lies bs at (class-def ps) → class bs at g ≡ Ok (class-at ps g)
