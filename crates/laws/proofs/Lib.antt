@@ -3,3 +3,5 @@ pub mod Lying
 pub mod Ranges
 pub mod Covering
 pub mod Classing
+pub mod Packing
+pub mod Devices

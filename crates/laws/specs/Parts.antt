@@ -8,11 +8,21 @@ use Rattle.std.specs.declared.result.Result.{Result}
 use Rattle.std.specs.declared.result.Result.the-variants.{Ok}
 use Rattle.spec.specs.Lists.{Every}
 use Rattle.spec.specs.Fields.{Stand}
+use Rattle.spec.specs.Entries.{Device, value-at}
+use Rattle.spec.specs.Values.{device, variation-index}
 use Rattle.spec.specs.Coverage.{coverage-index}
 use Rattle.spec.specs.Classes.{class-at}
-use Rattle.spec.specs.Bytes.{Table, Lies, coverage, class-def}
-use Rattle.spec.specs.Meaning.{covered, class}
-use Rattle.laws.specs.Conditions.{Rising}
+use Rattle.spec.specs.Bytes.{Table, Lies, coverage, class-def, beside-table}
+use Rattle.spec.specs.Meaning.{no-id, covered, class, beside}
+use Rattle.laws.specs.Conditions.{Rising, Fits-device}
+
+-- a device table gives, for every pixel size, the device's value and no id. It is 0 outside the device's sizes
+abbrev pub Device-reads : Type 0
+Device-reads = (bs : List ℕ) (at size : ℕ) (d : Device) → Fits-device d → Lies bs at (beside-table (device d)) → beside bs size at ≡ Ok (value-at d size, no-id)
+
+-- the three fields of a variation index table give its id back, whichever it is, and no device value
+abbrev pub Variation-index-reads : Type 0
+Variation-index-reads = (bs : List ℕ) (at size n : ℕ) → Lies bs at (beside-table (variation-index n)) → beside bs size at ≡ Ok (pos 0, n)
 
 -- a coverage table gives each glyph its place among the covered glyphs, or none. They need not rise: of a glyph that is listed
 -- twice it is the first place
