@@ -5,3 +5,5 @@ pub mod Covering
 pub mod Classing
 pub mod Packing
 pub mod Devices
+pub mod Records
+pub mod PairSets

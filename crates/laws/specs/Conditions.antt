@@ -10,6 +10,7 @@ use Rattle.std.specs.declared.option.Option.the-variants.{Some, None}
 use Rattle.spec.specs.Lists.{Every}
 use Rattle.spec.specs.Entries.{Device}
 use Rattle.spec.specs.Values.{Metric, ValueRecord, DeviceOrVariationIndex, device, variation-index, writing-order, format}
+use Rattle.spec.specs.Build.{BuiltSingle, BuiltPair}
 
 -- numbers that rise strictly, the first of them above b
 abbrev pub Above : ℕ → List ℕ → Type 0
@@ -50,3 +51,14 @@ Bits-in (suc d) g f = (g % 2 ≤ f % 2) × Bits-in d (g / 2) (f / 2)
 -- a value format has a field for all that a record has
 abbrev pub Has-fields : ℕ → ValueRecord DeviceOrVariationIndex → Type 0
 Has-fields f r = Bits-in 8 (format r) f
+
+-- a record of a value format of its own
+abbrev pub Of-format : ℕ → ValueRecord DeviceOrVariationIndex → Type 0
+Of-format f r = (format r ≡ f) × Fits-record r
+
+-- glyphs with records of one value format, and pairs with records of two
+abbrev pub Singles-of : ℕ → List BuiltSingle → Type 0
+Singles-of f es = Every (λ e. Of-format f (e .values)) es
+
+abbrev pub Pairs-of : ℕ → ℕ → List BuiltPair → Type 0
+Pairs-of f1 f2 es = Every (λ e. Of-format f1 (e .values1) × Of-format f2 (e .values2)) es

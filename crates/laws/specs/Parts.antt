@@ -1,7 +1,7 @@
 -- Each part of a subtable reads back, wherever in the bytes it stands.
 use mathlib.Core.Path.{_≡_}
 use mathlib.Core.List.{List, [], _∷_, map}
-use Prim.Native.Nat.{ℕ, _<_}
+use Prim.Native.Nat.{ℕ, _+_, _<_}
 use lib.IntN.{pos}
 use lib.ListN.{length}
 use Rattle.std.specs.declared.result.Result.{Result}
@@ -9,12 +9,16 @@ use Rattle.std.specs.declared.result.Result.the-variants.{Ok}
 use Rattle.spec.specs.Lists.{Every}
 use Rattle.spec.specs.Fields.{Stand}
 use Rattle.spec.specs.Entries.{Device, value-at}
-use Rattle.spec.specs.Values.{device, variation-index}
+use Rattle.spec.specs.Values.{ValueRecord, DeviceOrVariationIndex, device, variation-index}
 use Rattle.spec.specs.Coverage.{coverage-index}
 use Rattle.spec.specs.Classes.{class-at}
-use Rattle.spec.specs.Bytes.{Table, Lies, coverage, class-def, beside-table}
-use Rattle.spec.specs.Meaning.{no-id, covered, class, beside}
-use Rattle.laws.specs.Conditions.{Rising, Fits-device}
+use Rattle.spec.specs.Build.{BuiltPair}
+use Rattle.spec.specs.Bytes
+use Rattle.spec.specs.Meaning
+use Rattle.spec.specs.Bytes.{Table, head, Below, Lies, coverage, class-def, beside-table, pair-set-table}
+use Rattle.spec.specs.Meaning.{no-id, covered, class, beside, pair-search}
+use Rattle.laws.specs.Conditions.{Rising, Fits-device, Fits-record, Has-fields, Pairs-of}
+use Rattle.laws.specs.Descriptions.{record-read, second-read}
 
 -- a device table gives, for every pixel size, the device's value and no id. It is 0 outside the device's sizes
 abbrev pub Device-reads : Type 0
@@ -33,3 +37,18 @@ Coverage-reads = (bs : List ℕ) (at : ℕ) (gs : List ℕ) (g : ℕ) → Lies b
 -- the first and the last
 abbrev pub Class-reads : Type 0
 Class-reads = (bs : List ℕ) (at : ℕ) (ps : List (ℕ × ℕ)) (g : ℕ) → Rising (map (λ p. p .0) ps) → Lies bs at (class-def ps) → class bs at g ≡ Ok (class-at ps g)
+
+-- what is left of a table that lies at `base`: its fields stand from position k on, and its children lie from offset `at` on
+abbrev pub Rest-lies : List ℕ → ℕ → ℕ → ℕ → Table → Type 0
+Rest-lies bs base at k t = Stand bs k (head at t) × Below bs base at t
+
+-- a record inside a table, in any value format that has its fields, gives each metric's default, device value and id. Its
+-- devices are children of the table, at offsets that are not 0
+abbrev pub Record-reads : Type 0
+Record-reads = (bs : List ℕ) (size base at k f : ℕ) (r : ValueRecord DeviceOrVariationIndex) (t : Table) → Fits-record r → Has-fields f r → 0 < at
+    → Rest-lies bs base at k (Bytes.values f r t) → Meaning.values bs size base k f ≡ Ok (record-read size r)
+
+-- in a pair set the first pair with the second glyph is found, or none
+abbrev pub Pair-set-reads : Type 0
+Pair-set-reads = (bs : List ℕ) (size h at f1 f2 : ℕ) (es : List BuiltPair) → Pairs-of f1 f2 es → Lies bs at (pair-set-table f1 f2 es)
+    → pair-search bs size h f1 f2 at (at + 2) (length es) ≡ Ok (second-read size h es)

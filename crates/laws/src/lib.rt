@@ -1,7 +1,7 @@
 // What is proved of the definitions alone, with no program: one function a theorem, which its contract names.
 
 ghost use Rattle.laws.specs.Tables.{Fields-stand, Field-reads, Parts-stand, Offsets-lead};
-ghost use Rattle.laws.specs.Parts.{Device-reads, Variation-index-reads, Coverage-reads, Class-reads};
+ghost use Rattle.laws.specs.Parts.{Device-reads, Variation-index-reads, Coverage-reads, Class-reads, Record-reads, Pair-set-reads};
 
 pub fn fields_stand() -> u8
     ensures { λ _. ⌜ Fields-stand ⌝ }
@@ -47,6 +47,18 @@ pub fn coverage_reads() -> u8
 
 pub fn class_reads() -> u8
     ensures { λ _. ⌜ Class-reads ⌝ }
+{
+    0
+}
+
+pub fn record_reads() -> u8
+    ensures { λ _. ⌜ Record-reads ⌝ }
+{
+    0
+}
+
+pub fn pair_set_reads() -> u8
+    ensures { λ _. ⌜ Pair-set-reads ⌝ }
 {
     0
 }
