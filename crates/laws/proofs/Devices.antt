@@ -24,14 +24,10 @@ use Rattle.spec.specs.Bytes.{Table, own, beside-table, Lies}
 use Rattle.spec.specs.Meaning.{beside, device-value, nothing, no-id}
 use Rattle.laws.specs.Conditions.{Within, Fits-device, Fits-beside}
 use Rattle.laws.specs.Descriptions.{beside-read}
+use Rattle.laws.proofs.Finding.{every-at}
 use Rattle.laws.proofs.Standing.{spread, stand-at, length-map-numbers, getD-map-numbers}
 use Rattle.laws.proofs.Lying.{fields-head}
 use Rattle.laws.proofs.Packing.{format-bounds, word-below, unpacks}
-
-pub every-at : {A : Type 0} (P : A → Type 0) (xs : List A) (i : ℕ) (d : A) → Every P xs → i < length xs → P (getD xs i d)
-every-at P [] i d h l = absurd (omega arith)
-every-at P (x ∷ xs) zero d h l = h .0
-every-at P (x ∷ xs) (suc i) d h l = every-at P xs i d (h .1) (omega arith)
 
 -- the tests on the way
 not-index : (f : ℕ) → f ≤ 3 → eqb f 0x8000 ≡ false

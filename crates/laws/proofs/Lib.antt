@@ -1,3 +1,4 @@
+pub mod Finding
 pub mod Standing
 pub mod Lying
 pub mod Ranges
@@ -7,3 +8,5 @@ pub mod Packing
 pub mod Devices
 pub mod Records
 pub mod PairSets
+pub mod Sameness
+pub mod Singles

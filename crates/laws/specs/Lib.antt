@@ -2,3 +2,4 @@ pub mod Conditions
 pub mod Descriptions
 pub mod Tables
 pub mod Parts
+pub mod Subtables

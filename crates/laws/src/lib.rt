@@ -1,7 +1,9 @@
 // What is proved of the definitions alone, with no program: one function a theorem, which its contract names.
 
+ghost use Rattle.spec.specs.Build.{Together-is-equivalence};
 ghost use Rattle.laws.specs.Tables.{Fields-stand, Field-reads, Parts-stand, Offsets-lead};
 ghost use Rattle.laws.specs.Parts.{Device-reads, Variation-index-reads, Coverage-reads, Class-reads, Record-reads, Pair-set-reads};
+ghost use Rattle.laws.specs.Subtables.{Single-reads};
 
 pub fn fields_stand() -> u8
     ensures { λ _. ⌜ Fields-stand ⌝ }
@@ -59,6 +61,19 @@ pub fn record_reads() -> u8
 
 pub fn pair_set_reads() -> u8
     ensures { λ _. ⌜ Pair-set-reads ⌝ }
+{
+    0
+}
+
+// Glyphs that come to one SinglePos subtable fall into classes.
+pub fn together_is_equivalence() -> u8
+    ensures { λ _. ⌜ Together-is-equivalence ⌝ }
+{
+    0
+}
+
+pub fn single_reads() -> u8
+    ensures { λ _. ⌜ Single-reads ⌝ }
 {
     0
 }

@@ -1,0 +1,20 @@
+-- Subtables and lookups read as they are described, wherever in the bytes they lie, for every question and pixel size, and never
+-- fault.
+use mathlib.Core.Path.{_≡_}
+use mathlib.Core.List.{List, [], _∷_, map}
+use Prim.Native.Nat.{ℕ, _≤_}
+use lib.ListN.{length}
+use Rattle.std.specs.declared.option.Option.{Option}
+use Rattle.std.specs.declared.result.Result.{Result}
+use Rattle.std.specs.declared.result.Result.the-variants.{Ok}
+use Rattle.spec.specs.Lists.{Every}
+use Rattle.spec.specs.Build.{BuiltSingle, BuiltPair}
+use Rattle.spec.specs.Bytes.{Table, Lies, single-table, glyph-pair-table, lookup-table}
+use Rattle.spec.specs.Meaning.{single, pair, lookup}
+use Rattle.laws.specs.Conditions.{Singles-of, Pairs-of}
+use Rattle.laws.specs.Descriptions.{single-read, pair-read, first-said}
+
+-- SinglePos, in both formats: the record of a glyph, or none. The glyphs need not rise: of a glyph that is listed twice it is
+-- the first record
+abbrev pub Single-reads : Type 0
+Single-reads = (bs : List ℕ) (size g at f : ℕ) (es : List BuiltSingle) → 1 ≤ length es → Singles-of f es → Lies bs at (single-table es) → single bs size g at ≡ Ok (single-read size g es)
