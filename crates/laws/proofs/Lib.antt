@@ -1,5 +1,6 @@
 pub mod Finding
 pub mod Standing
+pub mod Lookups
 pub mod Lying
 pub mod Ranges
 pub mod Covering
@@ -10,3 +11,4 @@ pub mod Records
 pub mod PairSets
 pub mod Sameness
 pub mod Singles
+pub mod GlyphPairs

@@ -18,3 +18,13 @@ use Rattle.laws.specs.Descriptions.{single-read, pair-read, first-said}
 -- the first record
 abbrev pub Single-reads : Type 0
 Single-reads = (bs : List ℕ) (size g at f : ℕ) (es : List BuiltSingle) → 1 ≤ length es → Singles-of f es → Lies bs at (single-table es) → single bs size g at ≡ Ok (single-read size g es)
+
+-- PairPos format 1: the two records of the first pair with both glyphs, or none
+abbrev pub Glyph-pairs-read : Type 0
+Glyph-pairs-read = (bs : List ℕ) (size at f1 f2 : ℕ) (q : ℕ × ℕ) (es : List BuiltPair) → Pairs-of f1 f2 es → Lies bs at (glyph-pair-table f1 f2 es) → pair bs size q at ≡ Ok (pair-read size q es)
+
+-- a lookup, with a mark filtering set or without: the answer of the first subtable that has one. A subtable is anything that has a
+-- table and reads, wherever that lies, as it is described
+abbrev pub Lookup-reads : Type 0 → Type 0 → Type 0
+Lookup-reads O A = (bs : List ℕ) (type flags : ℕ) (mark : Option ℕ) (table : O → Table) (try : ℕ → Result (Option A) ℕ) (says : O → Option A) (subs : List O)
+    → Every (λ o. (at : ℕ) → Lies bs at (table o) → try at ≡ Ok (says o)) subs → Lies bs 0 (lookup-table type flags mark (map table subs)) → lookup bs type try ≡ Ok (first-said says subs)

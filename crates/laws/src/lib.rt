@@ -3,7 +3,7 @@
 ghost use Rattle.spec.specs.Build.{Together-is-equivalence};
 ghost use Rattle.laws.specs.Tables.{Fields-stand, Field-reads, Parts-stand, Offsets-lead};
 ghost use Rattle.laws.specs.Parts.{Device-reads, Variation-index-reads, Coverage-reads, Class-reads, Record-reads, Pair-set-reads};
-ghost use Rattle.laws.specs.Subtables.{Single-reads};
+ghost use Rattle.laws.specs.Subtables.{Single-reads, Glyph-pairs-read, Lookup-reads};
 
 pub fn fields_stand() -> u8
     ensures { λ _. ⌜ Fields-stand ⌝ }
@@ -74,6 +74,19 @@ pub fn together_is_equivalence() -> u8
 
 pub fn single_reads() -> u8
     ensures { λ _. ⌜ Single-reads ⌝ }
+{
+    0
+}
+
+pub fn glyph_pairs_read() -> u8
+    ensures { λ _. ⌜ Glyph-pairs-read ⌝ }
+{
+    0
+}
+
+// O is what a subtable is, A what it answers.
+pub fn lookup_reads<O, A>() -> u8
+    ensures { λ _. ⌜ Lookup-reads O A ⌝ }
 {
     0
 }
