@@ -1,20 +1,18 @@
 -- A class definition that stands in bytes gives each glyph its class.
 use mathlib.Core.Path.{_≡_, refl, sym, ap, subst, _∙_}
-use mathlib.Core.Bool.{Bool, true, false, cond, _&&_}
-use mathlib.Core.Logic.{_⊎_, inl, inr}
-use mathlib.Core.List.{List, [], _∷_, _++_, map}
-use Prim.Native.Nat.{ℕ, zero, suc, _+_, _-_, _*_, _≤_, _<_}
+use mathlib.Core.Bool.{Bool, true, false, cond}
+use mathlib.Core.Logic.{inl, inr}
+use mathlib.Core.List.{List, [], _∷_, map}
+use Prim.Native.Nat.{ℕ, _+_, _-_, _≤_, _<_}
 use native.Mathlib.Omega.{arith}
-use lib.Dec.{eqb, leb, ltb}
-use lib.ListN.{length, getD}
-use Rattle.std.specs.declared.result.Result.{Result}
-use Rattle.std.specs.declared.result.Result.the-variants.{Ok, Err}
-use Rattle.std.proofs.shelf.Lists.{length-map, getD-map}
+use lib.Dec.{eqb}
+use lib.ListN.{length}
+use Rattle.std.specs.declared.result.Result.the-variants.{Ok}
 use Rattle.std.proofs.shelf.Ways.{tells}
 use Rattle.std.proofs.shelf.Tests.{cases-lt, lt-leb, le-leb, lt-ltb, le-ltb}
 use Rattle.spec.specs.Fields.{field, and-then, Stand}
 use Rattle.spec.specs.Coverage.{Range, joined, ranges}
-use Rattle.spec.specs.Classes.{class-at, last-from, span, shorter-as-array, class-range-fields, first-listed, class-array}
+use Rattle.spec.specs.Classes.{class-at, last-from, span, shorter-as-array, class-range-fields, class-array}
 use Rattle.spec.specs.Bytes.{Table, end, fields, head, own, class-def, Lies}
 use Rattle.spec.specs.Meaning.{class-in, class-by-array, class}
 use Rattle.laws.specs.Conditions.{Above, Rising}

@@ -1,21 +1,20 @@
 -- A coverage table that stands in bytes gives each glyph its place.
 use mathlib.Core.Path.{_≡_, refl, sym, ap, subst, _∙_}
-use mathlib.Core.Bool.{Bool, true, false, cond, _&&_}
-use mathlib.Core.List.{List, [], _∷_, _++_, map}
-use Prim.Native.Nat.{ℕ, suc, _+_, _-_, _*_, _≤_}
+use mathlib.Core.Bool.{Bool, true, false, cond}
+use mathlib.Core.List.{List, [], _∷_, map}
+use Prim.Native.Nat.{ℕ, suc, _+_, _-_}
 use native.Mathlib.Omega.{arith}
-use lib.Dec.{eqb, leb}
+use lib.Dec.{eqb}
 use lib.ListN.{length}
 use Rattle.std.specs.declared.option.Option.{Option}
-use Rattle.std.specs.declared.option.Option.the-variants.{Some, None}
-use Rattle.std.specs.declared.result.Result.{Result}
-use Rattle.std.specs.declared.result.Result.the-variants.{Ok, Err}
+use Rattle.std.specs.declared.option.Option.the-variants.{Some}
+use Rattle.std.specs.declared.result.Result.the-variants.{Ok}
 use Rattle.std.proofs.shelf.Ways.{tells}
 use Rattle.spec.specs.Lists.{place-of}
 use Rattle.spec.specs.Fields.{field, Stand}
-use Rattle.spec.specs.Coverage.{Range, joined, ranges, glyph-ranges, range-fields, shorter-as-ranges, coverage-format, coverage-count, coverage-entries, coverage-index}
+use Rattle.spec.specs.Coverage.{Range, joined, glyph-ranges, range-fields, shorter-as-ranges, coverage-count, coverage-entries, coverage-index}
 use Rattle.spec.specs.Classes.{class-range-fields}
-use Rattle.spec.specs.Bytes.{Table, end, fields, head, coverage, own, Lies}
+use Rattle.spec.specs.Bytes.{end, fields, head, coverage, own, Lies}
 use Rattle.spec.specs.Meaning.{glyph-search, index-in, covered}
 use Rattle.laws.proofs.Standing.{spread}
 use Rattle.laws.proofs.Lying.{fields-head}

@@ -1,27 +1,24 @@
 -- Device tables and variation index tables that stand in bytes read back.
-use mathlib.Core.Path.{_≡_, refl, sym, ap, subst, _∙_}
-use mathlib.Core.Bool.{Bool, true, false, cond, _&&_}
-use mathlib.Core.Logic.{_⊎_, inl, inr}
-use mathlib.Core.List.{List, [], _∷_, map}
-use Prim.Native.Nat.{ℕ, zero, suc, _+_, _-_, _*_, _/_, _%_, _≤_, _<_}
+use mathlib.Core.Path.{_≡_, sym, ap, subst, _∙_}
+use mathlib.Core.Bool.{true, false, _&&_}
+use mathlib.Core.Logic.{inl, inr}
+use mathlib.Core.List.{List, [], _∷_}
+use Prim.Native.Nat.{ℕ, _+_, _-_, _*_, _/_, _%_, _≤_, _<_}
 use native.Mathlib.Omega.{arith}
-use lib.Dec.{eqb, leb, ltb}
+use lib.Dec.{eqb, leb}
 use lib.ListN.{length, getD}
 use lib.IntN.{ℤ, pos}
-use Rattle.std.specs.declared.option.Option.{Option}
-use Rattle.std.specs.declared.option.Option.the-variants.{Some, None}
-use Rattle.std.specs.declared.result.Result.{Result}
-use Rattle.std.specs.declared.result.Result.the-variants.{Ok, Err}
+use Rattle.std.specs.declared.option.Option.the-variants.{Some}
+use Rattle.std.specs.declared.result.Result.the-variants.{Ok}
 use Rattle.std.proofs.shelf.Lists.{getD-past}
 use Rattle.std.proofs.shelf.Tests.{cases-lt}
 use Rattle.std.proofs.shelf.Ways.{tells}
-use Rattle.spec.specs.Lists.{Every, numbers}
 use Rattle.spec.specs.Fields.{field, and-then, Stand}
 use Rattle.spec.specs.Entries.{Device, value-at}
 use Rattle.spec.specs.Values.{DeviceOrVariationIndex, device, variation-index}
-use Rattle.spec.specs.Devices.{delta-format, per-word, words, word, unpack, device-fields, variation-fields}
-use Rattle.spec.specs.Bytes.{Table, own, beside-table, Lies}
-use Rattle.spec.specs.Meaning.{beside, device-value, nothing, no-id}
+use Rattle.spec.specs.Devices.{delta-format, per-word, words, word, device-fields, variation-fields}
+use Rattle.spec.specs.Bytes.{own, beside-table, Lies}
+use Rattle.spec.specs.Meaning.{beside, device-value, no-id}
 use Rattle.laws.specs.Conditions.{Within, Fits-device, Fits-beside}
 use Rattle.laws.specs.Descriptions.{beside-read}
 use Rattle.laws.proofs.Finding.{every-at}

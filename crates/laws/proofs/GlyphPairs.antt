@@ -1,27 +1,26 @@
 -- PairPos subtables of format 1 that lie in bytes read as they are described.
 use mathlib.Core.Path.{_≡_, refl, sym, ap, subst, _∙_}
 use mathlib.Core.Bool.{Bool, true, false, _&&_, _||_}
-use mathlib.Core.Logic.{_⊎_, inl, inr}
+use mathlib.Core.Logic.{inl, inr}
 use mathlib.Core.List.{List, [], _∷_, map}
-use Prim.Native.Nat.{ℕ, zero, suc, _+_, _*_, _<_}
+use Prim.Native.Nat.{ℕ, _+_, _*_, _<_}
 use native.Mathlib.Omega.{arith}
 use native.Mathlib.Nat.{zero-add}
 use lib.Dec.{eqb, ltb}
 use lib.ListN.{length, getD}
 use Rattle.std.specs.declared.option.Option.{Option}
 use Rattle.std.specs.declared.option.Option.the-variants.{Some, None}
-use Rattle.std.specs.declared.result.Result.{Result}
-use Rattle.std.specs.declared.result.Result.the-variants.{Ok, Err}
+use Rattle.std.specs.declared.result.Result.the-variants.{Ok}
 use Rattle.std.proofs.shelf.Lists.{length-map, getD-map}
 use Rattle.std.proofs.shelf.Tests.{cases-bool, or-parts, eqb-true, lt-ltb}
 use Rattle.std.proofs.shelf.Ways.{tells}
-use Rattle.spec.specs.Lists.{Every, any, has, keep, first, place-of, map-some, inserted, rising}
-use Rattle.spec.specs.Fields.{field, and-then, Stand}
+use Rattle.spec.specs.Lists.{Every, any, has, keep, first, map-some, inserted, rising}
+use Rattle.spec.specs.Fields.{field, and-then}
 use Rattle.spec.specs.Build.{BuiltPair, first-glyphs, pair-set}
 use Rattle.spec.specs.Bytes.{Table, end, head, own, size, Lies, coverage, children, pair-set-table, glyph-pair-table}
 use Rattle.spec.specs.Meaning.{covered, if-covered, pair-search, glyph-pair, pair}
 use Rattle.laws.specs.Conditions.{Of-format, Pairs-of}
-use Rattle.laws.specs.Descriptions.{records-read, second-read, pair-read}
+use Rattle.laws.specs.Descriptions.{records-read, pair-read}
 use Rattle.laws.proofs.Standing.{spread}
 use Rattle.laws.proofs.Finding.{Found, absent, there, found}
 use Rattle.laws.proofs.Covering.{coverage-reads}

@@ -1,14 +1,15 @@
 pub mod Finding
 pub mod Standing
-pub mod Lookups
 pub mod Lying
 pub mod Ranges
 pub mod Covering
 pub mod Classing
 pub mod Packing
 pub mod Devices
+pub mod Formats
 pub mod Records
 pub mod PairSets
 pub mod Sameness
 pub mod Singles
+pub mod Lookups
 pub mod GlyphPairs

@@ -1,20 +1,18 @@
 -- A table's children one by one, and a lookup that tries its subtables in order.
-use mathlib.Core.Path.{_≡_, refl, sym, ap, subst, _∙_}
-use mathlib.Core.Bool.{Bool, true, false}
+use mathlib.Core.Path.{_≡_, refl, ap, subst, _∙_}
 use mathlib.Core.List.{List, [], _∷_, map}
 use Prim.Native.Nat.{ℕ, zero, suc, _+_, _*_, _<_}
 use native.Mathlib.Omega.{arith}
 use native.Mathlib.Nat.{zero-add}
-use lib.Dec.{eqb}
 use lib.ListN.{length, getD}
 use Rattle.std.specs.declared.option.Option.{Option}
 use Rattle.std.specs.declared.option.Option.the-variants.{Some, None}
 use Rattle.std.specs.declared.result.Result.{Result}
-use Rattle.std.specs.declared.result.Result.the-variants.{Ok, Err}
+use Rattle.std.specs.declared.result.Result.the-variants.{Ok}
 use Rattle.std.proofs.shelf.Lists.{length-map}
 use Rattle.std.proofs.shelf.Tests.{eq-eqb}
 use Rattle.spec.specs.Lists.{Every, or-else}
-use Rattle.spec.specs.Fields.{field, and-then, Stand}
+use Rattle.spec.specs.Fields.{field, and-then}
 use Rattle.spec.specs.Bytes.{Table, head, own, size, Lies, children, mark-field, lookup-table}
 use Rattle.spec.specs.Meaning.{tried, lookup}
 use Rattle.laws.specs.Descriptions.{first-said}

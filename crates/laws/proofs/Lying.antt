@@ -5,7 +5,7 @@ use Prim.Native.Nat.{ℕ, _+_, _*_}
 use native.Mathlib.Omega.{arith}
 use lib.ListN.{length, drop}
 use Rattle.std.proofs.shelf.Lists.{append-assoc, length-append, drop-drop, drop-at}
-use Rattle.spec.specs.Fields.{big-endian, Stand}
+use Rattle.spec.specs.Fields.{big-endian}
 use Rattle.spec.specs.Bytes.{Table, end, field, count, child, fields, own, size, head, below, bytes, Below, Lies}
 use Rattle.laws.proofs.Standing.{stand}
 

@@ -1,7 +1,7 @@
 -- Values packed into words, in any of the three delta formats, come out again.
 use mathlib.Core.Path.{_≡_, refl, sym, ap, subst, _∙_}
 use mathlib.Core.List.{List, [], _∷_}
-use Prim.Native.Nat.{ℕ, zero, suc, _+_, _-_, _*_, _/_, _%_, _^_, _<_, _≤_, max, min}
+use Prim.Native.Nat.{ℕ, zero, suc, _+_, _-_, _*_, _/_, _%_, _^_, _<_, _≤_, min}
 use native.Mathlib.Omega.{arith}
 use native.Mathlib.Nat.{mul-add, mul-one, mul-assoc, mod-eq-of-lt, mul-add-div-right, mul-add-mod-self-right}
 use lib.Arith.{digits-lt, digits-div}
@@ -11,7 +11,7 @@ use Rattle.std.proofs.shelf.Ways.{tells}
 use Rattle.std.proofs.shelf.Bits.{pow-pos, pow-add, mod-below, mul-le, div-add-mod'}
 use Rattle.std.proofs.shelf.Lists.{length-drop, length-take, getD-take, getD-drop}
 use Rattle.spec.specs.Fields.{bits-of, signed}
-use Rattle.spec.specs.Devices.{needed-format, delta-format, width, per-word, pack, word, unpack}
+use Rattle.spec.specs.Devices.{needed-format, delta-format, per-word, pack, word, unpack}
 use Rattle.laws.specs.Conditions.{Within}
 
 -- ---- delta formats

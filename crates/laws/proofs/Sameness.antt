@@ -1,22 +1,21 @@
 -- The tests for the same record are equality, and so glyphs that come to one subtable fall into classes.
-use mathlib.Core.Path.{_≡_, refl, sym, ap, ap₂, subst, _∙_}
-use mathlib.Core.Bool.{Bool, true, false, _&&_, _||_, not}
-use mathlib.Core.Logic.{_⊎_, inl, inr}
+use mathlib.Core.Path.{_≡_, refl, sym, ap, ap₂, subst}
+use mathlib.Core.Bool.{Bool, true, _&&_, _||_, not}
+use mathlib.Core.Logic.{inl, inr}
 use mathlib.Core.List.{List, [], _∷_}
 use Prim.Native.Nat.{ℕ, _*_}
 use native.Mathlib.Omega.{arith}
 use lib.Dec.{eqb, ltb}
-use lib.IntN.{ℤ, pos, negsuc}
+use lib.IntN.{pos, negsuc}
 use Rattle.std.specs.Orderings.{Decides}
-use Rattle.std.specs.declared.option.Option.{Option}
 use Rattle.std.specs.declared.option.Option.the-variants.{Some, None}
-use Rattle.std.proofs.shelf.Tests.{false≢true, or-cases, or-left}
+use Rattle.std.proofs.shelf.Tests.{or-cases, or-left}
 use Rattle.std.proofs.shelf.Ways.{tells, decides-eqb, decides-and, decides-like}
 use Rattle.spec.specs.Lists.{count}
 use Rattle.spec.specs.Fields.{same-signed}
 use Rattle.spec.specs.Entries.{Device, same-values, same-device}
 use Rattle.spec.specs.Values.{Metric, ValueRecord, DeviceOrVariationIndex, device, variation-index, format, encoded-size, same-beside, same-option, same-metric, same-record}
-use Rattle.spec.specs.Build.{BuiltSingle, large, together, Equivalence}
+use Rattle.spec.specs.Build.{BuiltSingle, together, Equivalence}
 
 -- a test is equality
 abbrev pub Exact : {A : Type 0} → (A → A → Bool) → Type 0

@@ -1,32 +1,31 @@
 -- SinglePos subtables that lie in bytes read as they are described.
 use mathlib.Core.Path.{_≡_, refl, sym, ap, subst, _∙_}
-use mathlib.Core.Bool.{Bool, true, false, _&&_, _||_}
-use mathlib.Core.Logic.{_⊎_, inl, inr}
+use mathlib.Core.Bool.{true, _||_}
+use mathlib.Core.Logic.{inl, inr}
 use mathlib.Core.List.{List, [], _∷_, map}
 use Prim.Native.Nat.{ℕ, zero, suc, _+_, _*_, _≤_, _<_}
 use native.Mathlib.Omega.{arith}
 use native.Mathlib.Nat.{suc-mul, zero-add}
-use lib.Dec.{eqb, ltb}
+use lib.Dec.{eqb}
 use lib.ListN.{length, getD}
 use Rattle.std.specs.declared.option.Option.{Option}
 use Rattle.std.specs.declared.option.Option.the-variants.{Some, None}
-use Rattle.std.specs.declared.result.Result.{Result}
-use Rattle.std.specs.declared.result.Result.the-variants.{Ok, Err}
+use Rattle.std.specs.declared.result.Result.the-variants.{Ok}
 use Rattle.std.proofs.shelf.Tests.{cases-bool, or-cases, eqb-true, lt-ltb}
-use Rattle.spec.specs.Lists.{Every, all, first, place-of, map-some}
-use Rattle.spec.specs.Fields.{field, and-then, Stand}
-use Rattle.spec.specs.Values.{Metric, ValueRecord, DeviceOrVariationIndex, empty, field-bit, format, encoded-size, same-record}
-use Rattle.spec.specs.Coverage.{coverage-index}
+use Rattle.spec.specs.Lists.{Every, all, place-of}
+use Rattle.spec.specs.Fields.{field, and-then}
+use Rattle.spec.specs.Values.{ValueRecord, DeviceOrVariationIndex, format, encoded-size, same-record}
 use Rattle.spec.specs.Build.{BuiltSingle}
 use Rattle.spec.specs.Bytes.{Table, end, head, own, size, Lies, coverage, values as values-table, single-values, single-table}
-use Rattle.spec.specs.Meaning.{ReadMetric, covered, if-covered, values, one-record, single, single-2}
+use Rattle.spec.specs.Meaning.{covered, if-covered, values, one-record, single, single-2}
 use Rattle.laws.specs.Conditions.{Of-format, Singles-of}
 use Rattle.laws.specs.Descriptions.{record-read, single-read}
 use Rattle.laws.specs.Parts.{Rest-lies}
 use Rattle.laws.proofs.Standing.{spread}
 use Rattle.laws.proofs.Finding.{Found, absent, there, found, place-map, all-every, every-at, every-map}
 use Rattle.laws.proofs.Covering.{coverage-reads}
-use Rattle.laws.proofs.PairSets.{own-record}
+use Rattle.laws.proofs.Formats.{no-fields}
+use Rattle.laws.proofs.Records.{own-record}
 use Rattle.laws.proofs.Sameness.{record-exact}
 
 -- ---- the records of one table
@@ -44,19 +43,6 @@ rows-read bs base s f (e ∷ es) k at (suc i) d fits z h l =
     let q : k + encoded-size f + i * encoded-size f ≡ k + suc i * encoded-size f = omega (arith, suc-mul i (encoded-size f)) in
     let r = rows-read bs base s f es (k + encoded-size f) (v .1 .next) i d (fits .1) (v .1 .later) (v .1 .rest) (omega arith) in
     subst (λ n. values bs s base n f ≡ Ok (record-read s (getD es i d .values))) q r
-
--- a record without fields is empty
-no-metric : (m : Option (Metric DeviceOrVariationIndex)) → field-bit m ≡ 0 → m ≡ None
-no-metric None h = refl
-no-metric (Some m) h = absurd (omega arith)
-
-no-fields : (r : ValueRecord DeviceOrVariationIndex) → format r ≡ 0 → r ≡ empty
-no-fields r h =
-    let xa = no-metric (r .x-advance) (omega arith) in
-    let ya = no-metric (r .y-advance) (omega arith) in
-    let xp = no-metric (r .x-placement) (omega arith) in
-    let yp = no-metric (r .y-placement) (omega arith) in
-    λ i. record { x-advance = xa i; y-advance = ya i; x-placement = xp i; y-placement = yp i }
 
 -- one record is written only if it is that of all
 all-same : (f : ℕ) (e : BuiltSingle) (es : List BuiltSingle) → Singles-of f (e ∷ es) → (eqb (format (e .values)) 0 || all (λ x. same-record (x .values) (e .values)) es) ≡ true → Every (λ x. x .values ≡ e .values) (e ∷ es)

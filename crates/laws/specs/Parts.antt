@@ -1,12 +1,10 @@
 -- Each part of a subtable reads back, wherever in the bytes it stands.
 use mathlib.Core.Path.{_≡_}
-use mathlib.Core.List.{List, [], _∷_, map}
+use mathlib.Core.List.{List, map}
 use Prim.Native.Nat.{ℕ, _+_, _<_}
 use lib.IntN.{pos}
 use lib.ListN.{length}
-use Rattle.std.specs.declared.result.Result.{Result}
 use Rattle.std.specs.declared.result.Result.the-variants.{Ok}
-use Rattle.spec.specs.Lists.{Every}
 use Rattle.spec.specs.Fields.{Stand}
 use Rattle.spec.specs.Entries.{Device, value-at}
 use Rattle.spec.specs.Values.{ValueRecord, DeviceOrVariationIndex, device, variation-index}

@@ -1,7 +1,7 @@
 -- Subtables and lookups read as they are described, wherever in the bytes they lie, for every question and pixel size, and never
 -- fault.
 use mathlib.Core.Path.{_≡_}
-use mathlib.Core.List.{List, [], _∷_, map}
+use mathlib.Core.List.{List, map}
 use Prim.Native.Nat.{ℕ, _≤_}
 use lib.ListN.{length}
 use Rattle.std.specs.declared.option.Option.{Option}
