@@ -79,13 +79,18 @@ module _ (bs : List ℕ) (k g : ℕ) (p : ℕ × ℕ) (ps : List (ℕ × ℕ)) (
 
 -- ---- either format
 
-ranged : (bs : List ℕ) (k at g : ℕ) (ps : List (ℕ × ℕ)) → Stand bs k (head at (Table.field 2 (Table.count (length (ranges ps)) (fields (class-range-fields (ranges ps)) end)))) → class bs k g ≡ Ok (class-at ps g)
+abbrev range-table : List (ℕ × ℕ) → Table
+range-table ps = Table.field 2 (Table.count (length (ranges ps)) (fields (class-range-fields (ranges ps)) end))
+
+abbrev array-table : ℕ × ℕ → List (ℕ × ℕ) → Table
+array-table p ps = Table.field 1 (Table.field (p .0) (Table.count (span (p ∷ ps)) (fields (class-array (p ∷ ps)) end)))
+
+ranged : (bs : List ℕ) (k at g : ℕ) (ps : List (ℕ × ℕ)) → Stand bs k (head at (range-table ps)) → class bs k g ≡ Ok (class-at ps g)
 ranged bs k at g ps h =
     let p = spread bs k 1 (length (ranges ps) ∷ []) (head at (fields (class-range-fields (ranges ps)) end)) (h .1) in
     by-ranges bs k g ps (h .0) (p .0) (subst (Stand bs (k + 4)) (fields-head (class-range-fields (ranges ps)) at) (p .1))
 
-arrayed : (bs : List ℕ) (k at g : ℕ) (p : ℕ × ℕ) (ps : List (ℕ × ℕ)) → Above (p .0) (map (λ p. p .0) ps)
-    → Stand bs k (head at (Table.field 1 (Table.field (p .0) (Table.count (span (p ∷ ps)) (fields (class-array (p ∷ ps)) end))))) → class bs k g ≡ Ok (class-at (p ∷ ps) g)
+arrayed : (bs : List ℕ) (k at g : ℕ) (p : ℕ × ℕ) (ps : List (ℕ × ℕ)) → Above (p .0) (map (λ p. p .0) ps) → Stand bs k (head at (array-table p ps)) → class bs k g ≡ Ok (class-at (p ∷ ps) g)
 arrayed bs k at g p ps up h =
     let s = spread bs k 1 (p .0 ∷ span (p ∷ ps) ∷ []) (head at (fields (class-array (p ∷ ps)) end)) (h .1) in
     rw (h .0) (by-array bs k g p ps up (s .0) (s .1 .0) (subst (Stand bs (k + 6)) (fields-head (class-array (p ∷ ps)) at) (s .1 .1)))
@@ -94,9 +99,6 @@ pub class-reads : (bs : List ℕ) (at : ℕ) (ps : List (ℕ × ℕ)) (g : ℕ) 
 class-reads bs at [] g up h = ranged bs at (own (class-def [])) g [] (h .0)
 class-reads bs at (p ∷ ps) g up h = by-format (shorter-as-array (p ∷ ps)) (own (class-def (p ∷ ps))) (h .0)
   where
-    by-format : (b : Bool) (o : ℕ) → Stand bs at (head o (cond b
-        (Table.field 1 (Table.field (p .0) (Table.count (span (p ∷ ps)) (fields (class-array (p ∷ ps)) end))))
-        (Table.field 2 (Table.count (length (ranges (p ∷ ps))) (fields (class-range-fields (ranges (p ∷ ps))) end)))))
-        → class bs at g ≡ Ok (class-at (p ∷ ps) g)
+    by-format : (b : Bool) (o : ℕ) → Stand bs at (head o (cond b (array-table p ps) (range-table (p ∷ ps)))) → class bs at g ≡ Ok (class-at (p ∷ ps) g)
     by-format true o h = arrayed bs at o g p ps up h
     by-format false o h = ranged bs at o g (p ∷ ps) h

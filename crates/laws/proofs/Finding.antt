@@ -1,14 +1,17 @@
--- Where a test first passes in a list.
+-- Tests over lists: where one first passes, what holds of all, what is kept.
 use mathlib.Core.Path.{_≡_, refl, ap, _∙_}
-use mathlib.Core.Bool.{Bool, true, false}
+use mathlib.Core.Bool.{Bool, true, false, _&&_, _||_}
+use mathlib.Core.Logic.{inl, inr}
 use mathlib.Core.List.{List, [], _∷_, map}
 use Prim.Native.Nat.{ℕ, zero, suc, _+_, _<_}
 use native.Mathlib.Omega.{arith}
+use lib.Dec.{eqb, ltb}
 use lib.ListN.{length, getD}
 use Rattle.std.specs.declared.option.Option.{Option}
 use Rattle.std.specs.declared.option.Option.the-variants.{Some, None}
-use Rattle.std.proofs.shelf.Tests.{and-parts}
-use Rattle.spec.specs.Lists.{first, place-of, all, Every}
+use Rattle.std.proofs.shelf.Tests.{cases-bool, and-parts, or-parts}
+use Rattle.std.proofs.shelf.Ways.{tells}
+use Rattle.spec.specs.Lists.{first, place-of, any, all, has, keep, inserted, rising, Every}
 
 -- a test passes nowhere in a list, or first at place j, where x stands; places are counted from i on
 pub data Found {A : Type 0} (p : A → Bool) (i : ℕ) (xs : List A) : Type 0 where
@@ -37,6 +40,40 @@ every-at P [] i d h l = absurd (omega arith)
 every-at P (x ∷ xs) zero d h l = h .0
 every-at P (x ∷ xs) (suc i) d h l = every-at P xs i d (h .1) (omega arith)
 
-pub every-map : {A : Type 0} (P Q : A → Type 0) → ((x : A) → P x → Q x) → (xs : List A) → Every P xs → Every Q xs
-every-map P Q f [] h = tt
-every-map P Q f (x ∷ xs) h = (f x (h .0), every-map P Q f xs (h .1))
+pub every-weaker : {A : Type 0} (P Q : A → Type 0) → ((x : A) → P x → Q x) → (xs : List A) → Every P xs → Every Q xs
+every-weaker P Q f [] h = tt
+every-weaker P Q f (x ∷ xs) h = (f x (h .0), every-weaker P Q f xs (h .1))
+
+-- rising leaves no number out and brings none in
+has-inserted : (g x : ℕ) (ys : List ℕ) → has g (inserted ltb x ys) ≡ (eqb x g || has g ys)
+has-inserted g x [] = refl
+has-inserted g x (y ∷ ys) = let r = has-inserted g x ys in grind (arith, tells)
+
+pub has-rising : (g : ℕ) (xs : List ℕ) → has g (rising xs) ≡ has g xs
+has-rising g [] = refl
+has-rising g (x ∷ xs) = has-inserted g x (rising xs) ∙ ap (λ b. eqb x g || b) (has-rising g xs)
+
+-- nothing passes
+pub none-any : {A : Type 0} (p : A → Bool) (xs : List A) → first p xs ≡ None → any p xs ≡ false
+none-any p [] h = refl
+none-any p (x ∷ xs) h = let r = none-any p xs in grind (arith, tells)
+
+pub first-none : {A B : Type 0} (p : B → Bool) (q : A → Bool) (f : A → B) (xs : List A) → any p (map f xs) ≡ false → first (λ x. p (f x) && q x) xs ≡ None
+first-none p q f [] h = refl
+first-none p q f (x ∷ xs) h = let b = or-parts (p (f x)) (any p (map f xs)) h in rw (b .0, first) (first-none p q f xs (b .1))
+
+-- the first of those kept
+pub first-keep : {A : Type 0} (p q : A → Bool) (xs : List A) → first q (keep p xs) ≡ first (λ x. p x && q x) xs
+first-keep {A} p q [] = refl
+first-keep {A} p q (x ∷ xs) = let r = first-keep p q xs in elim (cases-bool (p x)) [
+  | inl t ↦ rw (t, keep) (rw (t, first) (ap {B = Option A} (λ o. elim (q x) [ true ↦ Some x | false ↦ o ]) r))
+  | inr t ↦ rw (t, keep) (rw (t, first) r)
+]
+
+pub every-keep : {A : Type 0} (P : A → Type 0) (p : A → Bool) (xs : List A) → Every P xs → Every P (keep p xs)
+every-keep P p [] h = tt
+every-keep P p (x ∷ xs) h = by (p x) (every-keep P p xs (h .1))
+  where
+    by : (b : Bool) → Every P (keep p xs) → Every P (elim b [ true ↦ x ∷ keep p xs | false ↦ keep p xs ])
+    by true r = (h .0, r)
+    by false r = r

@@ -13,7 +13,6 @@ use Rattle.std.proofs.shelf.Tests.{eqb-false}
 use Rattle.std.proofs.shelf.Ways.{tells}
 use Rattle.spec.specs.Lists.{Every}
 use Rattle.spec.specs.Values.{Metric, ValueRecord, DeviceOrVariationIndex, writing-order, field-bit, device-bit, from-bits, empty, format, ones, encoded-size}
-use Rattle.spec.specs.Meaning.{beside}
 use Rattle.laws.specs.Conditions.{Bits-in, Has-fields}
 
 -- ---- bits

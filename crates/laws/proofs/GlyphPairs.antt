@@ -1,20 +1,16 @@
 -- PairPos subtables of format 1 that lie in bytes read as they are described.
-use mathlib.Core.Path.{_≡_, refl, sym, ap, subst, _∙_}
-use mathlib.Core.Bool.{Bool, true, false, _&&_, _||_}
-use mathlib.Core.Logic.{inl, inr}
+use mathlib.Core.Path.{_≡_, sym, ap, subst, _∙_}
+use mathlib.Core.Bool.{false, _&&_}
 use mathlib.Core.List.{List, [], _∷_, map}
 use Prim.Native.Nat.{ℕ, _+_, _*_, _<_}
-use native.Mathlib.Omega.{arith}
 use native.Mathlib.Nat.{zero-add}
-use lib.Dec.{eqb, ltb}
+use lib.Dec.{eqb}
 use lib.ListN.{length, getD}
-use Rattle.std.specs.declared.option.Option.{Option}
 use Rattle.std.specs.declared.option.Option.the-variants.{Some, None}
 use Rattle.std.specs.declared.result.Result.the-variants.{Ok}
 use Rattle.std.proofs.shelf.Lists.{length-map, getD-map}
-use Rattle.std.proofs.shelf.Tests.{cases-bool, or-parts, eqb-true, lt-ltb}
-use Rattle.std.proofs.shelf.Ways.{tells}
-use Rattle.spec.specs.Lists.{Every, any, has, keep, first, map-some, inserted, rising}
+use Rattle.std.proofs.shelf.Tests.{eqb-true, lt-ltb}
+use Rattle.spec.specs.Lists.{has, first, map-some}
 use Rattle.spec.specs.Fields.{field, and-then}
 use Rattle.spec.specs.Build.{BuiltPair, first-glyphs, pair-set}
 use Rattle.spec.specs.Bytes.{Table, end, head, own, size, Lies, coverage, children, pair-set-table, glyph-pair-table}
@@ -22,51 +18,16 @@ use Rattle.spec.specs.Meaning.{covered, if-covered, pair-search, glyph-pair, pa
 use Rattle.laws.specs.Conditions.{Of-format, Pairs-of}
 use Rattle.laws.specs.Descriptions.{records-read, pair-read}
 use Rattle.laws.proofs.Standing.{spread}
-use Rattle.laws.proofs.Finding.{Found, absent, there, found}
+use Rattle.laws.proofs.Finding.{Found, absent, there, found, has-rising, none-any, first-none, first-keep, every-keep}
 use Rattle.laws.proofs.Covering.{coverage-reads}
 use Rattle.laws.proofs.PairSets.{pair-set-reads}
 use Rattle.laws.proofs.Lookups.{Leads, child-at}
-
--- ---- first glyphs, and the pairs of one
-
-has-inserted : (g x : ℕ) (ys : List ℕ) → has g (inserted ltb x ys) ≡ (eqb x g || has g ys)
-has-inserted g x [] = refl
-has-inserted g x (y ∷ ys) = let r = has-inserted g x ys in grind (arith, tells)
-
-has-rising : (g : ℕ) (xs : List ℕ) → has g (rising xs) ≡ has g xs
-has-rising g [] = refl
-has-rising g (x ∷ xs) = has-inserted g x (rising xs) ∙ ap (λ b. eqb x g || b) (has-rising g xs)
-
-none-any : {A : Type 0} (p : A → Bool) (xs : List A) → first p xs ≡ None → any p xs ≡ false
-none-any p [] h = refl
-none-any p (x ∷ xs) h = let r = none-any p xs in grind (arith, tells)
-
-first-none : {A B : Type 0} (p : B → Bool) (q : A → Bool) (f : A → B) (xs : List A) → any p (map f xs) ≡ false → first (λ x. p (f x) && q x) xs ≡ None
-first-none p q f [] h = refl
-first-none p q f (x ∷ xs) h = let b = or-parts (p (f x)) (any p (map f xs)) h in rw (b .0, first) (first-none p q f xs (b .1))
-
-first-keep : {A : Type 0} (p q : A → Bool) (xs : List A) → first q (keep p xs) ≡ first (λ x. p x && q x) xs
-first-keep {A} p q [] = refl
-first-keep {A} p q (x ∷ xs) = let r = first-keep p q xs in elim (cases-bool (p x)) [
-  | inl t ↦ rw (t, keep) (rw (t, first) (ap {B = Option A} (λ o. elim (q x) [ true ↦ Some x | false ↦ o ]) r))
-  | inr t ↦ rw (t, keep) (rw (t, first) r)
-]
-
-every-keep : {A : Type 0} (P : A → Type 0) (p : A → Bool) (xs : List A) → Every P xs → Every P (keep p xs)
-every-keep P p [] h = tt
-every-keep P p (x ∷ xs) h = by (p x) (every-keep P p xs (h .1))
-  where
-    by : (b : Bool) → Every P (keep p xs) → Every P (elim b [ true ↦ x ∷ keep p xs | false ↦ keep p xs ])
-    by true r = (h .0, r)
-    by false r = r
 
 -- a first glyph that is not listed has no pair
 no-pair : (g h : ℕ) (es : List BuiltPair) → first (λ x. eqb x g) (first-glyphs es) ≡ None → first (λ e. eqb (e .first) g && eqb (e .second) h) es ≡ None
 no-pair g h es n =
     let a : has g (map (λ e. e .first) es) ≡ false = sym (has-rising g (map (λ e. e .first) es)) ∙ none-any (λ x. eqb x g) (first-glyphs es) n in
     first-none (λ x. eqb x g) (λ e. eqb (e .second) h) (λ e. e .first) es a
-
--- ---- the subtable
 
 module _ (bs : List ℕ) (s at f1 f2 : ℕ) (q : ℕ × ℕ) (es : List BuiltPair) (fits : Pairs-of f1 f2 es) where
   -- the pair set of the first glyph, found through the offset at k

@@ -16,7 +16,7 @@ use Rattle.std.proofs.shelf.Tests.{cases-bool, eqb-true, eqb-false, ne-eqb}
 use Rattle.spec.specs.Lists.{Every}
 use Rattle.spec.specs.Fields.{field, and-then, signed}
 use Rattle.spec.specs.Values.{Metric, ValueRecord, DeviceOrVariationIndex, writing-order, field-bit, device-bit, ones, encoded-size}
-use Rattle.spec.specs.Bytes.{Table, own, size, default-of, device-of, offset-of, beside-table, defaults as defaults-table, devices as devices-table, values as values-table}
+use Rattle.spec.specs.Bytes.{Table, size, default-of, device-of, offset-of, beside-table, defaults as defaults-table, devices as devices-table, values as values-table}
 use Rattle.spec.specs.Meaning.{nothing, beside, defaults, devices, values, two-records}
 use Rattle.laws.specs.Conditions.{Fits-beside, Fits-metric, Fits-record, Has-fields, Of-format}
 use Rattle.laws.specs.Descriptions.{beside-read, default-read, device-read, record-read}
@@ -71,7 +71,7 @@ pub record Behind (bs : List ℕ) (base k : ℕ) (t : Table) : Type 0 where
   pub later : 0 < next
   pub rest : Rest-lies bs base next k t
 
-pub moved : {bs : List ℕ} {base : ℕ} {t : Table} (j k : ℕ) → j ≡ k → Behind bs base j t → Behind bs base k t
+moved : {bs : List ℕ} {base : ℕ} {t : Table} (j k : ℕ) → j ≡ k → Behind bs base j t → Behind bs base k t
 moved {bs} {base} {t} j k e b = record { next = b .next; later = b .later; rest = subst (λ n. Rest-lies bs base (b .next) n t) e (b .rest) }
 
 module _ (bs : List ℕ) (base s : ℕ) where
@@ -144,9 +144,10 @@ module _ (bs : List ℕ) (base s : ℕ) where
   pub own-record : (r : ValueRecord DeviceOrVariationIndex) (f k at : ℕ) (t : Table) → Of-format f r → 0 < at → Rest-lies bs base at k (values-table f r t)
       → (values bs s base k f ≡ Ok (record-read s r)) × Behind bs base (k + encoded-size f) t
   own-record r f k at t fits z h =
-      let own = own-format f r (fits .0) in
-      record-then bs base s r f k at t (own .0) (fits .1) (own .1) z h
+      let o = own-format f r (fits .0) in
+      record-then bs base s r f k at t (o .0) (fits .1) (o .1) z h
 
+  -- two records, one behind the other
   pub own-records : (r q : ValueRecord DeviceOrVariationIndex) (f1 f2 k at : ℕ) (t : Table) → Of-format f1 r → Of-format f2 q → 0 < at → Rest-lies bs base at k (values-table f1 r (values-table f2 q t))
       → (two-records bs s base k f1 f2 ≡ Ok (Some (record-read s r ∷ record-read s q ∷ []))) × Behind bs base (k + encoded-size f1 + encoded-size f2) t
   own-records r q f1 f2 k at t fits more z h =

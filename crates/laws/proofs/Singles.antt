@@ -22,7 +22,7 @@ use Rattle.laws.specs.Conditions.{Of-format, Singles-of}
 use Rattle.laws.specs.Descriptions.{record-read, single-read}
 use Rattle.laws.specs.Parts.{Rest-lies}
 use Rattle.laws.proofs.Standing.{spread}
-use Rattle.laws.proofs.Finding.{Found, absent, there, found, place-map, all-every, every-at, every-map}
+use Rattle.laws.proofs.Finding.{Found, absent, there, found, place-map, all-every, every-at, every-weaker}
 use Rattle.laws.proofs.Covering.{coverage-reads}
 use Rattle.laws.proofs.Formats.{no-fields}
 use Rattle.laws.proofs.Records.{own-record}
@@ -51,8 +51,8 @@ all-same f e es fits h = elim (or-cases (eqb (format (e .values)) 0) (all (λ x.
       let z = eqb-true (format (e .values)) 0 q in
       let none : (x : BuiltSingle) → Of-format f (x .values) → x .values ≡ e .values =
       λ x o. no-fields (x .values) (o .0 ∙ sym (fits .0 .0) ∙ z) ∙ sym (no-fields (e .values) z) in
-      (refl, every-map (λ x. Of-format f (x .values)) (λ x. x .values ≡ e .values) none es (fits .1)))
-  | inr q ↦ (refl, every-map (λ x. same-record (x .values) (e .values) ≡ true) (λ x. x .values ≡ e .values) (λ x. record-exact (x .values) (e .values) .0) es (all-every (λ x. same-record (x .values) (e .values)) es q))
+      (refl, every-weaker (λ x. Of-format f (x .values)) (λ x. x .values ≡ e .values) none es (fits .1)))
+  | inr q ↦ (refl, every-weaker (λ x. same-record (x .values) (e .values) ≡ true) (λ x. x .values ≡ e .values) (λ x. record-exact (x .values) (e .values) .0) es (all-every (λ x. same-record (x .values) (e .values)) es q))
 ]
 
 -- ---- the two formats

@@ -52,7 +52,7 @@ Bits-in (suc d) g f = (g % 2 ≤ f % 2) × Bits-in d (g / 2) (f / 2)
 abbrev pub Has-fields : ℕ → ValueRecord DeviceOrVariationIndex → Type 0
 Has-fields f r = Bits-in 8 (format r) f
 
--- a record of a value format of its own
+-- a record that fits, with this value format for its own
 abbrev pub Of-format : ℕ → ValueRecord DeviceOrVariationIndex → Type 0
 Of-format f r = (format r ≡ f) × Fits-record r
 

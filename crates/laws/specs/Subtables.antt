@@ -1,7 +1,7 @@
 -- Subtables and lookups read as they are described, wherever in the bytes they lie, for every question and pixel size, and never
 -- fault.
 use mathlib.Core.Path.{_≡_}
-use mathlib.Core.List.{List, map}
+use mathlib.Core.List.{List, _++_, map}
 use Prim.Native.Nat.{ℕ, _≤_}
 use lib.ListN.{length}
 use Rattle.std.specs.declared.option.Option.{Option}
@@ -9,8 +9,8 @@ use Rattle.std.specs.declared.result.Result.{Result}
 use Rattle.std.specs.declared.result.Result.the-variants.{Ok}
 use Rattle.spec.specs.Lists.{Every}
 use Rattle.spec.specs.Build.{BuiltSingle, BuiltPair}
-use Rattle.spec.specs.Bytes.{Table, Lies, single-table, glyph-pair-table, lookup-table}
-use Rattle.spec.specs.Meaning.{single, pair, lookup}
+use Rattle.spec.specs.Bytes.{Table, Lies, single-table, glyph-pair-table, lookup-table, lookup-bytes}
+use Rattle.spec.specs.Meaning.{single, pair, lookup, single-meaning}
 use Rattle.laws.specs.Conditions.{Singles-of, Pairs-of}
 use Rattle.laws.specs.Descriptions.{single-read, pair-read, first-said}
 
@@ -28,3 +28,9 @@ Glyph-pairs-read = (bs : List ℕ) (size at f1 f2 : ℕ) (q : ℕ × ℕ) (es : 
 abbrev pub Lookup-reads : Type 0 → Type 0 → Type 0
 Lookup-reads O A = (bs : List ℕ) (type flags : ℕ) (mark : Option ℕ) (table : O → Table) (try : ℕ → Result (Option A) ℕ) (says : O → Option A) (subs : List O)
     → Every (λ o. (at : ℕ) → Lies bs at (table o) → try at ≡ Ok (says o)) subs → Lies bs 0 (lookup-table type flags mark (map table subs)) → lookup bs type try ≡ Ok (first-said says subs)
+
+-- so the bytes of a lookup of SinglePos subtables, whatever stands behind them, give the record of a glyph in the first subtable
+-- that has it, or none
+abbrev pub Single-lookup-reads : Type 0
+Single-lookup-reads = (back : List ℕ) (size g flags : ℕ) (mark : Option ℕ) (subs : List (List BuiltSingle)) → Every (λ es. (1 ≤ length es) × ((f : ℕ) × Singles-of f es)) subs
+    → single-meaning (lookup-bytes 1 flags mark (map single-table subs) ++ back) size g ≡ Ok (first-said (single-read size g) subs)

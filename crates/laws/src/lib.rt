@@ -3,7 +3,9 @@
 ghost use Rattle.spec.specs.Build.{Together-is-equivalence};
 ghost use Rattle.laws.specs.Tables.{Fields-stand, Field-reads, Parts-stand, Offsets-lead};
 ghost use Rattle.laws.specs.Parts.{Device-reads, Variation-index-reads, Coverage-reads, Class-reads, Record-reads, Pair-set-reads};
-ghost use Rattle.laws.specs.Subtables.{Single-reads, Glyph-pairs-read, Lookup-reads};
+ghost use Rattle.laws.specs.Subtables.{Single-reads, Glyph-pairs-read, Lookup-reads, Single-lookup-reads};
+
+// Fields and tables stand where their bytes do.
 
 pub fn fields_stand() -> u8
     ensures { λ _. ⌜ Fields-stand ⌝ }
@@ -28,6 +30,8 @@ pub fn offsets_lead() -> u8
 {
     0
 }
+
+// Each part of a subtable reads back.
 
 pub fn device_reads() -> u8
     ensures { λ _. ⌜ Device-reads ⌝ }
@@ -65,12 +69,7 @@ pub fn pair_set_reads() -> u8
     0
 }
 
-// Glyphs that come to one SinglePos subtable fall into classes.
-pub fn together_is_equivalence() -> u8
-    ensures { λ _. ⌜ Together-is-equivalence ⌝ }
-{
-    0
-}
+// Subtables and lookups read as they are described.
 
 pub fn single_reads() -> u8
     ensures { λ _. ⌜ Single-reads ⌝ }
@@ -87,6 +86,20 @@ pub fn glyph_pairs_read() -> u8
 // O is what a subtable is, A what it answers.
 pub fn lookup_reads<O, A>() -> u8
     ensures { λ _. ⌜ Lookup-reads O A ⌝ }
+{
+    0
+}
+
+pub fn single_lookup_reads() -> u8
+    ensures { λ _. ⌜ Single-lookup-reads ⌝ }
+{
+    0
+}
+
+// The glyphs of a section fall into SinglePos subtables.
+
+pub fn together_is_equivalence() -> u8
+    ensures { λ _. ⌜ Together-is-equivalence ⌝ }
 {
     0
 }
