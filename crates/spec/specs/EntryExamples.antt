@@ -3,12 +3,13 @@ use mathlib.Core.Path.{_≡_}
 use mathlib.Core.Bool.{true, false}
 use mathlib.Core.List.{List, [], _∷_, _++_, map}
 use Prim.Native.Nat.{ℕ}
+use lib.Chars.{codes}
 use lib.ListN.{length, replicate}
 use lib.IntN.{pos, negsuc}
 use Rattle.std.specs.declared.option.Option.{Option}
 use Rattle.std.specs.declared.option.Option.the-variants.{Some, None}
 use Rattle.spec.specs.Lists.{numbers}
-use Rattle.spec.specs.Denials.{Word, Part, Answer, arises, passed, passed-by, prevailing, answer-number}
+use Rattle.spec.specs.Denials.{Word, Part, Answer, arises, passed, passed-by, prevailing, answer-number, answer-text, broken}
 use Rattle.spec.specs.Entries.{set-fault, device-fault, deltas-fault, delta-at, is-alike}
 use Rattle.spec.specs.Values.{empty}
 use Rattle.spec.specs.Rules.{Call, Capacity, opened, answers, open-denial, sections}
@@ -79,4 +80,5 @@ pub record Openings : Type 0 where
   pub depths : (passed (passed-by 65535 (arises Word.full 0 Part.sets)) .depth ≡ 65535) × (passed (arises Word.full 0 Part.sets) .depth ≡ 1)
   pub winner : (prevailing (Some (arises Word.too-far 0 Part.writer)) (Some (arises Word.too-many 9 Part.writer)) ≡ Some (arises Word.too-many 9 Part.writer))
       × (prevailing (Some (arises Word.too-many 3 Part.writer)) (Some (arises Word.too-many 2 Part.writer)) ≡ Some (arises Word.too-many 2 Part.writer))
-  pub numbers-of : (answer-number Answer.taken ≡ 0) × (answer-number (in-lookup Word.no-section 32) ≡ 6)
+  pub numbers-of : (answer-number Answer.taken ≡ 0) × (answer-number (in-lookup Word.no-section 32) ≡ 6) × (answer-number (Answer.denied (broken 7)) ≡ 12)
+  pub texts : (answer-text (Answer.entered 3) ≡ codes "taken") × (answer-text (in-lookup Word.bad-flags 0) ≡ codes "bad flags")
