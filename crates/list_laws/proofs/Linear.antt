@@ -52,6 +52,7 @@ module _ {J K : Type 0} {lt eq : J → J → Bool} {lt′ eq′ : K → K → Bo
     where
       less : (u : Bool) → lt (x .0) (z .0) ≡ true → (lt (x .0) (z .0) || u) ≡ true
       less u h = rw h refl
+
       go : (a b : Bool) → lt (x .0) (y .0) ≡ a → lt (y .0) (z .0) ≡ b → (a || (eq (x .0) (y .0) && lt′ (x .1) (y .1))) ≡ true → (b || (eq (y .0) (z .0) && lt′ (y .1) (z .1))) ≡ true
           → lex lt eq lt′ x z ≡ true
       go true true p q h k = less _ (o .trans (x .0) (y .0) (z .0) p q)

@@ -81,14 +81,17 @@ module _ {A K : Type 0} {before : A → A → Bool} {key : A → K} (o : Order b
         ahead : before x y ≡ true → (b : Bool) → p x ≡ b → _≡_ {A = Option A} (elim b [ true ↦ Some x | false ↦ first p (y ∷ ys) ]) (or-else (first p (y ∷ ys)) (elim b [ true ↦ Some x | false ↦ None ]))
         ahead e true f = rw (none-behind x (y ∷ ys) (w f) (e, every-map (λ z g. o .trans x y z e g) ys (h .0)) ws)
         ahead e false f = sym (or-else-none (first p (y ∷ ys)))
+
         behind : first p (inserted before x ys) ≡ or-else (first p ys) (found x) → (b : Bool)
             → _≡_ {A = Option A} (elim b [ true ↦ Some y | false ↦ first p (inserted before x ys) ]) (or-else (elim b [ true ↦ Some y | false ↦ first p ys ]) (found x))
         behind r true = refl
         behind r false = r
+
         equal : key x ≡ key y → (b c : Bool) → p x ≡ b → p y ≡ c → _≡_ {A = Option A} (elim c [ true ↦ Some y | false ↦ first p ys ]) (or-else (elim c [ true ↦ Some y | false ↦ first p ys ]) (elim b [ true ↦ Some x | false ↦ None ]))
         equal e b true f g = refl
         equal e true false f g = false-true (sym g ∙ (sym (by-key x y e) ∙ f))
         equal e false false f g = sym (or-else-none (first p ys))
+
         go : (b c : Bool) → before x y ≡ b → before y x ≡ c → first p (inserted before x ys) ≡ or-else (first p ys) (found x)
             → first p (elim b [ true ↦ x ∷ y ∷ ys | false ↦ elim c [ true ↦ y ∷ inserted before x ys | false ↦ y ∷ ys ] ]) ≡ or-else (first p (y ∷ ys)) (found x)
         go true c e f r = ahead e (p x) refl
