@@ -1,0 +1,4 @@
+pub mod Orders
+pub mod Linear
+pub mod Sames
+pub mod Together
