@@ -6,3 +6,4 @@ pub mod Members
 pub mod Holding
 pub mod SingleAnswers
 pub mod Groups
+pub mod PairAnswers

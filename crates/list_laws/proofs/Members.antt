@@ -183,6 +183,7 @@ module _ {A K : Type 0} {before : A → A → Bool} {key : A → K} (o : Order b
       one : p x ≡ true → (y : A) → before x y ≡ true → (b : Bool) → p y ≡ b → p y ≡ false
       one e y l true f = false-true (sym (o .same x y (s x y e f)) ∙ l)
       one e y l false f = f
+
       go : p x ≡ true → (ys : List A) → Every (λ y. before x y ≡ true) ys → Every (λ y. p y ≡ false) ys
       go e [] w = tt
       go e (y ∷ ys) w = (one e y (w .0) (p y) refl, go e ys (w .1))
@@ -291,11 +292,13 @@ module _ {A K : Type 0} {before : A → A → Bool} {key : A → K} (o : Order b
       turn true false c = refl
       turn false true c = refl
       turn false false c = refl
+
       twice : (a b c : Bool) → a ≡ b → (b || c) ≡ (a || (b || c))
       twice true true c e = refl
       twice true false c e = false-true (sym e)
       twice false true c e = false-true e
       twice false false c e = refl
+
       go : (b c : Bool) → before x y ≡ b → before y x ≡ c → any p (inserted before x ys) ≡ (p x || any p ys)
           → any p (elim b [ true ↦ x ∷ y ∷ ys | false ↦ elim c [ true ↦ y ∷ inserted before x ys | false ↦ y ∷ ys ] ]) ≡ (p x || (p y || any p ys))
       go true c e f r = refl

@@ -70,6 +70,7 @@ module _ (es : List BuiltSingle) (distinct : (g : ℕ) → Unique (has-glyph g) 
       iff true q f g = sym (f refl)
       iff false true f g = g refl
       iff false false f g = refl
+
       swap : (x : BuiltSingle) → together es a b ≡ true → together es b a ≡ true → together es a x ≡ together es b x
       swap x t u = let eq = together-is-equivalence es in iff (together es a x) (together es b x) (λ h. eq .transitive b a x u h) (λ h. eq .transitive a b x t h)
 
