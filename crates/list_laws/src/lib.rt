@@ -2,6 +2,16 @@
 
 ghost use Rattle.list_laws.specs.Answering.{Singles-answer, Pairs-answer};
 
-pub fn begun() -> u8 {
+// single lookups
+pub fn singles_answer() -> u8
+    ensures { λ _. ⌜ Singles-answer ⌝ }
+{
+    0
+}
+
+// pair lookups
+pub fn pairs_answer() -> u8
+    ensures { λ _. ⌜ Pairs-answer ⌝ }
+{
     0
 }
