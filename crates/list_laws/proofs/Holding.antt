@@ -13,27 +13,49 @@ use Rattle.spec.specs.Values.{Metric, ValueRecord, DeviceOrDeltas, device#, del
 use Rattle.spec.specs.Rules.{RuleList}
 use Rattle.spec.specs.ListAnswer.{Adjustment, adjustment, adjustments}
 use Rattle.list_laws.specs.Says.{built-adjustment, built-adjustments}
-use Rattle.list_laws.specs.Answering.{Hold}
+use Rattle.list_laws.specs.Answering.{Matched}
 use Rattle.list_laws.proofs.Orders.{Rises}
 
--- the delta lists of these numbers
-abbrev pub lists-of : List (List Delta) → List ℕ → List (List Delta)
-lists-of deltas ns = map (λ n. getD deltas n []) ns
+pub matched-front : {A : Type 0} (P : ℕ → A → Type 0) (ids : List ℕ) (a b : List A) → Matched P ids (a ++ b) → Matched P ids a
+matched-front P ids [] b h = tt
+matched-front P [] (n ∷ a) b h = absurd h
+matched-front P (k ∷ ids) (n ∷ a) b h = (h .0, matched-front P ids a b (h .1))
+
+pub matched-back : {A : Type 0} (P : ℕ → A → Type 0) (ids : List ℕ) (a b : List A) → Matched P ids (a ++ b) → Matched P (drop (length a) ids) b
+matched-back P ids [] b h = h
+matched-back P [] (n ∷ a) b h = absurd h
+matched-back P (k ∷ ids) (n ∷ a) b h = matched-back P ids a b (h .1)
+
+pub matched-map : {A B : Type 0} (P : ℕ → B → Type 0) (f : A → B) (ids : List ℕ) (xs : List A) → Matched P ids (map f xs) → Matched (λ k x. P k (f x)) ids xs
+matched-map P f ids [] h = tt
+matched-map P f [] (x ∷ xs) h = absurd h
+matched-map P f (k ∷ ids) (x ∷ xs) h = (h .0, matched-map P f ids xs (h .1))
+
+pub matched-weaken : {A : Type 0} (P Q : ℕ → A → Type 0) → ((k : ℕ) (x : A) → P k x → Q k x) → (ids : List ℕ) (xs : List A) → Matched P ids xs → Matched Q ids xs
+matched-weaken P Q f ids [] h = tt
+matched-weaken P Q f [] (x ∷ xs) h = absurd h
+matched-weaken P Q f (k ∷ ids) (x ∷ xs) h = (f k x (h .0), matched-weaken P Q f ids xs (h .1))
+
+-- what holds of each with its own ids
+pub built-every : {A B : Type 0} (M : ℕ → ℕ → Type 0) (lists : A → List ℕ) (f : A → List ℕ → B) (P : A → Type 0) (Q : B → Type 0) → ((r : A) (ids : List ℕ) → P r → Matched M ids (lists r) → Q (f r ids))
+    → (rs : List A) (ids : List ℕ) → Every P rs → Matched M ids (concat (map lists rs)) → Every Q (built-each lists f rs ids)
+built-every M lists f P Q s [] ids h w = tt
+built-every M lists f P Q s (r ∷ rs) ids h w =
+    (s r ids (h .0) (matched-front M ids (lists r) (concat (map lists rs)) w), built-every M lists f P Q s rs (drop (length (lists r)) ids) (h .1) (matched-back M ids (lists r) (concat (map lists rs)) w))
 
 module _ (value : ℕ → ℕ → ℤ) (deltas : List (List Delta)) where
-  -- the ids hold the delta lists of these numbers
+  -- an id holds the delta list of this number
+  abbrev pub HoldsNumber : ℕ → ℕ → Type 0
+  HoldsNumber k n = (r : ℕ) → value k r ≡ delta-at (getD deltas n []) r
+
   abbrev pub HoldNumbers : List ℕ → List ℕ → Type 0
-  HoldNumbers ids ns = Hold value ids (lists-of deltas ns)
+  HoldNumbers ids ns = Matched HoldsNumber ids ns
 
   pub hold-front : (ids a b : List ℕ) → HoldNumbers ids (a ++ b) → HoldNumbers ids a
-  hold-front ids [] b h = tt
-  hold-front [] (n ∷ a) b h = absurd h
-  hold-front (k ∷ ids) (n ∷ a) b h = (h .0, hold-front ids a b (h .1))
+  hold-front ids a b h = matched-front HoldsNumber ids a b h
 
   pub hold-back : (ids a b : List ℕ) → HoldNumbers ids (a ++ b) → HoldNumbers (drop (length a) ids) b
-  hold-back ids [] b h = h
-  hold-back [] (n ∷ a) b h = absurd h
-  hold-back (k ∷ ids) (n ∷ a) b h = hold-back ids a b (h .1)
+  hold-back ids a b h = matched-back HoldsNumber ids a b h
 
   -- ---- one after the other, each with its own ids
 
@@ -64,14 +86,15 @@ module _ (value : ℕ → ℕ → ℤ) (deltas : List (List Delta)) where
     built-decided t t′ v (r ∷ rs) ids h = ap₂ or-else (v r ids (hold-front ids (lists r) (concat (map lists rs)) h)) (built-decided t t′ v rs (drop (length (lists r)) ids) (hold-back ids (lists r) (concat (map lists rs)) h))
 
 -- what stands in an order stays in it
-pub built-every : {A B : Type 0} (lists : A → List ℕ) (f : A → List ℕ → B) (P : A → Type 0) (Q : B → Type 0) → ((r : A) (ids : List ℕ) → P r → Q (f r ids)) → (rs : List A) (ids : List ℕ) → Every P rs → Every Q (built-each lists f rs ids)
-built-every lists f P Q s [] ids h = tt
-built-every lists f P Q s (r ∷ rs) ids h = (s r ids (h .0), built-every lists f P Q s rs (drop (length (lists r)) ids) (h .1))
+built-behind : {A B : Type 0} (lists : A → List ℕ) (f : A → List ℕ → B) (P : A → Type 0) (Q : B → Type 0) → ((r : A) (ids : List ℕ) → P r → Q (f r ids)) → (rs : List A) (ids : List ℕ) → Every P rs → Every Q (built-each lists f rs ids)
+built-behind lists f P Q s [] ids h = tt
+built-behind lists f P Q s (r ∷ rs) ids h = (s r ids (h .0), built-behind lists f P Q s rs (drop (length (lists r)) ids) (h .1))
 
 pub built-rises : {A B : Type 0} (lists : A → List ℕ) (f : A → List ℕ → B) (before : A → A → Bool) (before′ : B → B → Bool) → ((x y : A) (i j : List ℕ) → before′ (f x i) (f y j) ≡ before x y)
     → (rs : List A) (ids : List ℕ) → Rises before rs → Rises before′ (built-each lists f rs ids)
 built-rises lists f before before′ s [] ids h = tt
-built-rises lists f before before′ s (r ∷ rs) ids h = (built-every lists f (λ x. before r x ≡ true) (λ e. before′ (f r ids) e ≡ true) (λ x i e. s r x ids i ∙ e) rs (drop (length (lists r)) ids) (h .0), built-rises lists f before before′ s rs (drop (length (lists r)) ids) (h .1))
+built-rises lists f before before′ s (r ∷ rs) ids h =
+    (built-behind lists f (λ x. before r x ≡ true) (λ e. before′ (f r ids) e ≡ true) (λ x i e. s r x ids i ∙ e) rs (drop (length (lists r)) ids) (h .0), built-rises lists f before before′ s rs (drop (length (lists r)) ids) (h .1))
 
 -- ---- a built record gives what the rule's record says
 

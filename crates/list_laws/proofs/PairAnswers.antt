@@ -5,22 +5,23 @@ use mathlib.Core.Logic.{_⊎_, inl, inr}
 use mathlib.Core.List.{List, [], _∷_, _++_, map, reverse}
 use Prim.Native.Nat.{ℕ}
 use lib.Dec.{eqb, ltb}
-use lib.ListN.{length, drop}
+use lib.ListN.{length, getD, drop}
 use lib.IntN.{ℤ}
 use Rattle.std.specs.declared.option.Option.{Option}
 use Rattle.std.specs.declared.option.Option.the-variants.{Some, None}
 use Rattle.spec.specs.Lists.{Every, keep, first, last, any, has, or-else, map-some, decided, concat, sorted, same-list, list-before}
+use Rattle.spec.specs.Entries.{delta-at}
 use Rattle.spec.specs.Values.{ValueRecord, DeviceOrDeltas, DeviceOrVariationIndex, PairOf, empty, format, delta-lists, pair-lists, built-pair, built-each}
 use Rattle.spec.specs.Rules.{RuleList, sections}
 use Rattle.spec.specs.Kinds.{Pair, PairRule, glyph-rules, class-rules, pair-before, standing-pairs, set-of, groups, cell-before, standing-cells, standing-groups}
 use Rattle.spec.specs.ListAnswer.{Adjustment, adjustments, pair-decides, rule-or-zeros, group-decides, section-decides, pair-answer}
-use Rattle.spec.specs.Build.{BuiltPair, Cell, PairSubtable, glyph-pairs, class-pairs, formats, formats-before, of-formats, pair-subtables, with-sets, class-subtable, pairs-lists, pair-build, lists-to-add, built, built-sections}
+use Rattle.spec.specs.Build.{BuiltPair, Cell, PairSubtable, glyph-pairs, class-pairs, formats, formats-before, of-formats, pair-subtables, with-sets, class-subtable, pairs-lists, pair-build, lists-to-add, numbers-to-add, built, built-sections}
 use Rattle.list_laws.specs.Says.{pair-says, pair-said, cell-or-zeros, built-adjustments}
 use Rattle.list_laws.specs.Answering.{Hold}
 use Rattle.list_laws.proofs.Orders.{Order, Rises, every-map, every-sorted, sorted-rises, first-sorted, false-true}
 use Rattle.list_laws.proofs.Linear.{Linear, numbers-linear, lists-linear, lex-linear, by-key, both}
 use Rattle.list_laws.proofs.Members.{Any, Member, any-map, every-all, every-at, every-member, map-member, first-found, first-none, Unique, if-kept, first-keep, kept-or-none, decided-shared, decided-append, decided-concat, decided-same, decided-map, map-or-else, map-decided, map-map, last-reverse, rises-unique, sorted-has, any-mapped, first-mapped, any-sorted}
-use Rattle.list_laws.proofs.Holding.{HoldNumbers, hold-front, hold-back, built-first, built-any, built-decided, built-rises, record-gives}
+use Rattle.list_laws.proofs.Holding.{HoldNumbers, matched-map, hold-front, hold-back, built-first, built-any, built-decided, built-rises, record-gives}
 use Rattle.list_laws.proofs.Groups.{Apart, BothApart, groups-apart}
 
 -- ---- glyph pairs
@@ -211,6 +212,6 @@ module _ (value : ℕ → ℕ → ℤ) (l : RuleList PairRule) (size region : �
   pub pairs-answer : (ids : List ℕ) → Hold value ids (lists-to-add pair-build l) → pair-answer l size region q ≡ pair-said value size region (built pair-build l ids) q
   pairs-answer ids h =
       map-decided told (section-decides (l .sets) (q .0) (q .1)) (sections l)
-      ∙ (built-decided value (l .deltas) (pair-build .lists (l .sets)) (pair-build .subtables (l .sets) (l .devices)) (λ rs. map-some told (section-decides (l .sets) (q .0) (q .1) rs)) (decided (λ o. map-some said (pair-says q o))) section-answers (sections l) ids h
+      ∙ (built-decided value (l .deltas) (pair-build .lists (l .sets)) (pair-build .subtables (l .sets) (l .devices)) (λ rs. map-some told (section-decides (l .sets) (q .0) (q .1) rs)) (decided (λ o. map-some said (pair-says q o))) section-answers (sections l) ids (matched-map (λ k d. (r : ℕ) → value k r ≡ delta-at d r) (λ n. getD (l .deltas) n []) ids (numbers-to-add pair-build l) h)
       ∙ (sym (decided-concat (λ o. map-some said (pair-says q o)) (built-sections pair-build l ids))
       ∙ sym (map-decided said (pair-says q) (built pair-build l ids))))

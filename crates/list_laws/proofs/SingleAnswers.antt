@@ -5,24 +5,24 @@ use mathlib.Core.Logic.{_⊎_, inl, inr}
 use mathlib.Core.List.{List, [], _∷_, _++_, map}
 use Prim.Native.Nat.{ℕ}
 use lib.Dec.{eqb, ltb}
-use lib.ListN.{length, drop}
+use lib.ListN.{length, getD, drop}
 use lib.IntN.{ℤ}
 use Rattle.std.specs.declared.option.Option.{Option}
 use Rattle.std.specs.declared.option.Option.the-variants.{Some, None}
 use Rattle.spec.specs.Lists.{Every, keep, first, last, map-some, decided, concat, sorted}
-use Rattle.spec.specs.Entries.{Device}
+use Rattle.spec.specs.Entries.{delta-at}
 use Rattle.spec.specs.Values.{ValueRecord, DeviceOrDeltas, DeviceOrVariationIndex, SingleOf, single-lists, built-single, built-each}
 use Rattle.spec.specs.Rules.{RuleList, sections}
 use Rattle.spec.specs.Kinds.{SingleRule, standing-singles}
 use Rattle.spec.specs.ListAnswer.{Adjustment, adjustments, single-decides, single-answer}
-use Rattle.spec.specs.Build.{BuiltSingle, together, subtable-of, subtable-before, first-glyph, single-subtables, single-build, lists-to-add, built, built-sections}
+use Rattle.spec.specs.Build.{BuiltSingle, together, subtable-of, subtable-before, first-glyph, single-subtables, single-build, lists-to-add, numbers-to-add, built, built-sections}
 use Rattle.list_laws.specs.Says.{single-says, single-said, built-adjustments}
 use Rattle.list_laws.specs.Answering.{Hold}
 use Rattle.list_laws.proofs.Orders.{Order, Rises, every-map, every-sorted, sorted-rises, first-sorted, false-true}
 use Rattle.list_laws.proofs.Linear.{Linear, numbers-linear, falling-linear, lex-linear, by-key}
 use Rattle.list_laws.proofs.Together.{together-is-equivalence}
 use Rattle.list_laws.proofs.Members.{Any, Member, any-map, any-both, every-at, every-all, every-member, every-map-list, map-member, first-found, Unique, if-kept, first-keep, kept-or-none, keep-member, every-keep, every-kept, keep-same, unique-same, decided-shared, decided-concat, decided-same, map-decided, map-map, rises-unique, sorted-has}
-use Rattle.list_laws.proofs.Holding.{HoldNumbers, built-first, built-decided, built-rises, record-gives}
+use Rattle.list_laws.proofs.Holding.{HoldNumbers, matched-map, built-first, built-decided, built-rises, record-gives}
 
 abbrev has-glyph : {B : Type 0} → ℕ → SingleOf B → Bool
 has-glyph g e = eqb (e .glyph) g
@@ -132,6 +132,6 @@ module _ (value : ℕ → ℕ → ℤ) (l : RuleList SingleRule) (size region g 
   pub singles-answer : (ids : List ℕ) → Hold value ids (lists-to-add single-build l) → single-answer l size region g ≡ single-said value size region (built single-build l ids) g
   singles-answer ids h =
       map-decided told (single-decides g) (sections l)
-      ∙ (built-decided value (l .deltas) (single-build .lists (l .sets)) (single-build .subtables (l .sets) (l .devices)) (λ rs. map-some told (single-decides g rs)) (decided (λ o. map-some said (single-says g o))) section-answers (sections l) ids h
+      ∙ (built-decided value (l .deltas) (single-build .lists (l .sets)) (single-build .subtables (l .sets) (l .devices)) (λ rs. map-some told (single-decides g rs)) (decided (λ o. map-some said (single-says g o))) section-answers (sections l) ids (matched-map (λ k d. (r : ℕ) → value k r ≡ delta-at d r) (λ n. getD (l .deltas) n []) ids (numbers-to-add single-build l) h)
       ∙ (sym (decided-concat (λ o. map-some said (single-says g o)) (built-sections single-build l ids))
       ∙ sym (map-decided said (single-says g) (built single-build l ids))))

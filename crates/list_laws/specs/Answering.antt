@@ -10,11 +10,15 @@ use Rattle.spec.specs.ListAnswer.{single-answer, pair-answer}
 use Rattle.spec.specs.Build.{built, single-build, pair-build, lists-to-add}
 use Rattle.list_laws.specs.Says.{single-said, pair-said}
 
--- the ids hold the lists, one for one in their order; there may be more ids
+-- ids go with things, one for one in their order; there may be more ids
+abbrev pub Matched : {A : Type 0} → (ℕ → A → Type 0) → List ℕ → List A → Type 0
+Matched P ids [] = Unit {0}
+Matched P [] (x ∷ xs) = ⊥
+Matched P (k ∷ ks) (x ∷ xs) = P k x × Matched P ks xs
+
+-- the ids hold the lists
 abbrev pub Hold : (ℕ → ℕ → ℤ) → List ℕ → List (List Delta) → Type 0
-Hold value ids [] = Unit {0}
-Hold value [] (l ∷ ls) = ⊥
-Hold value (k ∷ ks) (l ∷ ls) = ((r : ℕ) → value k r ≡ delta-at l r) × Hold value ks ls
+Hold value ids ls = Matched (λ k l. (r : ℕ) → value k r ≡ delta-at l r) ids ls
 
 -- THE SUBTABLES OF A SINGLE LOOKUP, tried in order, say what its rule list says: none where it says none, otherwise the same default,
 -- device value at every size and delta at every region
