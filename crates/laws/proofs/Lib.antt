@@ -13,3 +13,5 @@ pub mod Sameness
 pub mod Singles
 pub mod Lookups
 pub mod GlyphPairs
+pub mod Making
+pub mod Keeping

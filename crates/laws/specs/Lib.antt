@@ -3,3 +3,4 @@ pub mod Descriptions
 pub mod Tables
 pub mod Parts
 pub mod Subtables
+pub mod Made
