@@ -15,3 +15,5 @@ pub mod Lookups
 pub mod GlyphPairs
 pub mod Making
 pub mod Keeping
+pub mod Fitting
+pub mod SingleFitting

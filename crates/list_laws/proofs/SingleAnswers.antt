@@ -27,7 +27,7 @@ use Rattle.list_laws.proofs.Holding.{HoldNumbers, matched-map, built-first, bu
 abbrev has-glyph : {B : Type 0} → ℕ → SingleOf B → Bool
 has-glyph g e = eqb (e .glyph) g
 
-rule-order : {B : Type 0} → Order {A = SingleOf B} (λ x y. ltb (x .glyph) (y .glyph)) (λ x. x .glyph)
+pub rule-order : {B : Type 0} → Order {A = SingleOf B} (λ x y. ltb (x .glyph) (y .glyph)) (λ x. x .glyph)
 rule-order {B} = by-key {A = SingleOf B} numbers-linear (λ x. x .glyph)
 
 same-glyph : {B : Type 0} (g : ℕ) (x y : SingleOf B) → has-glyph g x ≡ true → has-glyph g y ≡ true → x .glyph ≡ y .glyph
@@ -39,10 +39,10 @@ standing-last g rs = first-sorted rule-order (has-glyph g) g (λ x y e. ap (λ k
 
 -- ---- subtables share out the entries
 
-abbrev subtable-key : List BuiltSingle → ℕ × ℕ
+abbrev pub subtable-key : List BuiltSingle → ℕ × ℕ
 subtable-key x = (length x, first-glyph x)
 
-subtable-order : Order subtable-before subtable-key
+pub subtable-order : Order subtable-before subtable-key
 subtable-order = by-key (lex-linear falling-linear numbers-linear) subtable-key
 
 module _ (es : List BuiltSingle) (distinct : (g : ℕ) → Unique (has-glyph g) es) where
