@@ -17,3 +17,7 @@ pub mod Making
 pub mod Keeping
 pub mod Fitting
 pub mod SingleFitting
+pub mod Agreeing
+pub mod SingleLookups
+pub mod WholeSingles
+pub mod WholeRuns

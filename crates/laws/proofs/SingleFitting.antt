@@ -59,10 +59,11 @@ every-both P Q (x ∷ xs) h k = ((h .0, k .0), every-both P Q xs (h .1) (k .1))
 subtable-fits : (P : ℕ → Type 0) (es : List BuiltSingle) → Every (Entry P) es → (a : BuiltSingle) → Member a es → Fit P (subtable-of es a)
 subtable-fits P es h a m =
     let kept = every-keep (Entry P) (together es a) es h in
-    let forms = every-map (λ x e. together-format es a x e) (subtable-of es a) (every-kept (together es a) es) in
-    (not-empty a (subtable-of es a) (keep-member (together es a) a es m (together-is-equivalence es .reflexive a)),
+    let forms = every-map (λ x e. together-format es a x e) (subtable-of es a) (every-kept (together es a) es) in (
+      not-empty a (subtable-of es a) (keep-member (together es a) a es m (together-is-equivalence es .reflexive a)),
       (format (a .values), every-both (λ e. format (e .values) ≡ format (a .values)) (λ e. Fits-record (e .values)) (subtable-of es a) forms (every-map (λ e g. g .0) (subtable-of es a) kept)),
-      kept)
+      kept,
+    )
 
 every-concat : {A : Type 0} (P : A → Type 0) (xss : List (List A)) → Every (Every P) xss → Every P (concat xss)
 every-concat P [] h = tt

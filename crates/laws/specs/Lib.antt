@@ -4,3 +4,4 @@ pub mod Tables
 pub mod Parts
 pub mod Subtables
 pub mod Made
+pub mod Whole

@@ -1,5 +1,7 @@
 // What is proved of the definitions alone, with no program: one function a theorem, which its contract names.
 
+pub mod whole;
+
 ghost use Rattle.spec.specs.Build.{Together-is-equivalence};
 ghost use Rattle.laws.specs.Tables.{Fields-stand, Field-reads, Parts-stand, Offsets-lead};
 ghost use Rattle.laws.specs.Parts.{Device-reads, Variation-index-reads, Coverage-reads, Class-reads, Record-reads, Pair-set-reads};
