@@ -2,3 +2,8 @@ pub mod Orders
 pub mod Linear
 pub mod Sames
 pub mod Together
+pub mod Counting
+pub mod Parting
+pub mod Building
+pub mod SinglesStand
+pub mod PairsStand

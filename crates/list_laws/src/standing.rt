@@ -1,0 +1,17 @@
+// That each rule stands once in the subtables of its section, in the stated order, with its sets kept apart.
+
+ghost use Rattle.list_laws.specs.Standing.{Singles-stand, Pairs-stand-once};
+
+// each glyph with a rule stands in one subtable, once
+pub fn singles_stand() -> u8
+    ensures { λ _. ⌜ Singles-stand ⌝ }
+{
+    0
+}
+
+// each glyph pair with a rule stands in one pair set, once
+pub fn pairs_stand_once() -> u8
+    ensures { λ _. ⌜ Pairs-stand-once ⌝ }
+{
+    0
+}
