@@ -1,10 +1,12 @@
 -- What stands in a list, and how many of a list pass a test: in a list that rises by keys at most one of each key.
 use mathlib.Core.Path.{_≡_, refl, sym, ap, subst, _∙_}
-use mathlib.Core.Bool.{Bool, true, false, _&&_, _||_}
+use mathlib.Core.Bool.{Bool, true, false, _&&_, _||_, or-false, or-assoc, or-comm, or-self-left}
 use mathlib.Core.List.{List, [], _∷_, _++_, map, reverse, reverseAux}
 use mathlib.Core.Logic.{_⊎_, inl, inr}
-use Prim.Native.Nat.{ℕ, _+_}
+use Prim.Native.Nat.{ℕ, zero, suc, _+_, _≤_, _<_}
 use native.Mathlib.Omega.{arith}
+use lib.ListN.{length, getD}
+use Rattle.std.proofs.shelf.Tests.{or-cases, or-left, or-right}
 use Rattle.spec.specs.Lists.{Every, keep, one-if, count, sum-of, any, inserted, sorted}
 use Rattle.list_laws.proofs.Orders.{Order, Rises, sorted-rises, false-true}
 use Rattle.list_laws.proofs.Linear.{Linear, by-key}
@@ -13,23 +15,8 @@ abbrev pub In : {A : Type 0} → A → List A → Type 0
 In x [] = ⊥
 In x (y ∷ ys) = (x ≡ y) ⊎ In x ys
 
-or-swap : (a b c : Bool) → (a || (b || c)) ≡ (b || (a || c))
-or-swap true true c = refl
-or-swap true false c = refl
-or-swap false true c = refl
-or-swap false false c = refl
-
-or-assoc : (a b c : Bool) → (a || (b || c)) ≡ ((a || b) || c)
-or-assoc true b c = refl
-or-assoc false b c = refl
-
-or-false : (b : Bool) → (b || false) ≡ b
-or-false true = refl
-or-false false = refl
-
-or-again : (a c : Bool) → (a || c) ≡ (a || (a || c))
-or-again true c = refl
-or-again false c = refl
+or-swap : (a b c : Bool) → (a || (b || c)) ≡ (b || a || c)
+or-swap a b c = sym (or-assoc a b c) ∙ ap (λ d. d || c) (or-comm a b)
 
 -- a test that cannot be passed
 pub refuted : (b : Bool) → (b ≡ true → ⊥) → b ≡ false
@@ -61,29 +48,31 @@ module _ {A : Type 0} where
   in-map f (y ∷ ys) x (inl e) = inl (ap f e)
   in-map f (y ∷ ys) x (inr i) = inr (in-map f ys x i)
 
+  pub map-in : {B : Type 0} (f : A → B) (xs : List A) (y : B) → In y (map f xs) → (x : A) × In x xs × (y ≡ f x)
+  map-in f [] y i = absurd i
+  map-in f (x ∷ xs) y (inl e) = (x, inl refl, e)
+  map-in f (x ∷ xs) y (inr i) = let (z, j, e) = map-in f xs y i in (z, inr j, e)
+
+  pub in-place : (xs : List A) (i : ℕ) (d : A) → i < length xs → In (getD xs i d) xs
+  in-place [] i d h = absurd (omega arith)
+  in-place (x ∷ xs) zero d h = inl refl
+  in-place (x ∷ xs) (suc i) d h = inr (in-place xs i d (omega arith))
+
   pub any-in : (p : A → Bool) (xs : List A) → any p xs ≡ true → (x : A) × In x xs × (p x ≡ true)
   any-in p [] h = false-true h
-  any-in p (x ∷ xs) h = go (p x) refl h (any-in p xs)
-    where
-      go : (b : Bool) → p x ≡ b → (b || any p xs) ≡ true → (any p xs ≡ true → (y : A) × In y xs × (p y ≡ true)) → (y : A) × In y (x ∷ xs) × (p y ≡ true)
-      go true e h r = (x, inl refl, e)
-      go false e h r = let (y, i, f) = r h in (y, inr i, f)
+  any-in p (x ∷ xs) h = elim (or-cases (p x) (any p xs) h) [ inl e ↦ (x, inl refl, e) | inr f ↦ let (y, i, e) = any-in p xs f in (y, inr i, e) ]
 
   pub in-any : (p : A → Bool) {x : A} (xs : List A) → In x xs → p x ≡ true → any p xs ≡ true
   in-any p [] i e = absurd i
-  in-any p (y ∷ ys) (inl s) e = rw (ap p (sym s) ∙ e) refl
-  in-any p (y ∷ ys) (inr i) e = go (p y) (in-any p ys i e)
-    where
-      go : (b : Bool) → any p ys ≡ true → (b || any p ys) ≡ true
-      go true r = refl
-      go false r = r
+  in-any p (y ∷ ys) (inl s) e = or-left (p y) (any p ys) (ap p (sym s) ∙ e)
+  in-any p (y ∷ ys) (inr i) e = or-right (p y) (any p ys) (in-any p ys i e)
 
   pub none-in : (p : A → Bool) {x : A} (xs : List A) → any p xs ≡ false → In x xs → p x ≡ false
   none-in p {x} xs h i = refuted (p x) (λ e. false-true (sym h ∙ in-any p xs i e))
 
   any-turned : (p : A → Bool) (xs ys : List A) → any p (reverseAux xs ys) ≡ (any p xs || any p ys)
   any-turned p [] ys = refl
-  any-turned p (x ∷ xs) ys = any-turned p xs (x ∷ ys) ∙ or-swap (any p xs) (p x) (any p ys) ∙ or-assoc (p x) (any p xs) (any p ys)
+  any-turned p (x ∷ xs) ys = any-turned p xs (x ∷ ys) ∙ or-swap (any p xs) (p x) (any p ys)
 
   pub any-reverse : (p : A → Bool) (xs : List A) → any p (reverse xs) ≡ any p xs
   any-reverse p xs = any-turned p xs [] ∙ or-false (any p xs)
@@ -91,6 +80,24 @@ module _ {A : Type 0} where
   pub count-none : (p : A → Bool) (xs : List A) → ((x : A) → In x xs → p x ≡ false) → count p xs ≡ 0
   count-none p [] f = refl
   count-none p (x ∷ xs) f = rw (f x (inl refl)) (rw (count-none p xs (λ y i. f y (inr i))) refl)
+
+  count-more : (p q : A → Bool) → ((x : A) → p x ≡ true → q x ≡ true) → (xs : List A) → count p xs ≤ count q xs
+  count-more p q f [] = omega arith
+  count-more p q f (x ∷ xs) = go (p x) refl (count-more p q f xs)
+    where
+      go : (b : Bool) → p x ≡ b → count p xs ≤ count q xs → one-if b + count p xs ≤ one-if (q x) + count q xs
+      go true e r = rw (f x e) (omega arith)
+      go false e r = omega arith
+
+  -- a wider test that one more passes
+  pub count-less : (p q : A → Bool) → ((x : A) → p x ≡ true → q x ≡ true) → (xs : List A) (x : A) → In x xs → p x ≡ false → q x ≡ true → count p xs < count q xs
+  count-less p q f [] x i e g = absurd i
+  count-less p q f (y ∷ ys) x (inl s) e g = let r = count-more p q f ys in rw (ap p (sym s) ∙ e) (rw (ap q (sym s) ∙ g) (omega arith))
+  count-less p q f (y ∷ ys) x (inr i) e g = go (p y) refl (count-less p q f ys x i e g)
+    where
+      go : (b : Bool) → p y ≡ b → count p ys < count q ys → one-if b + count p ys < one-if (q y) + count q ys
+      go true e r = rw (f y e) (omega arith)
+      go false e r = omega arith
 
   pub count-keep : (p q : A → Bool) (xs : List A) → count q (keep p xs) ≡ count (λ x. p x && q x) xs
   count-keep p q [] = refl
@@ -127,6 +134,13 @@ module _ {A : Type 0} where
     rises-one {x} {y} (z ∷ zs) h (inr i) (inl t) e = absurd (apart z x (every-in (λ w. before z w ≡ true) zs (h .0) x i) (sym (ap key t) ∙ sym e))
     rises-one (z ∷ zs) h (inr i) (inr j) e = rises-one zs (h .1) i j e
 
+    pub one-place : (xs : List A) → Rises before xs → (d : A) (i j : ℕ) → i < length xs → j < length xs → key (getD xs i d) ≡ key (getD xs j d) → i ≡ j
+    one-place [] h d i j m n e = absurd (omega arith)
+    one-place (x ∷ xs) h d zero zero m n e = refl
+    one-place (x ∷ xs) h d zero (suc j) m n e = absurd (apart x (getD xs j d) (every-in (λ w. before x w ≡ true) xs (h .0) (getD xs j d) (in-place xs j d (omega arith))) e)
+    one-place (x ∷ xs) h d (suc i) zero m n e = absurd (apart x (getD xs i d) (every-in (λ w. before x w ≡ true) xs (h .0) (getD xs i d) (in-place xs i d (omega arith))) (sym e))
+    one-place (x ∷ xs) h d (suc i) (suc j) m n e = ap suc (one-place xs (h .1) d i j (omega arith) (omega arith) e)
+
     -- a test that only one key passes
     pub rising-count : (p : A → Bool) → ((x y : A) → p x ≡ true → p y ≡ true → key x ≡ key y) → (xs : List A) → Rises before xs → count p xs ≡ one-if (any p xs)
     rising-count p one [] h = refl
@@ -144,8 +158,8 @@ module _ {A : Type 0} where
         go : (b c : Bool) → before x y ≡ b → before y x ≡ c → any p (inserted before x ys) ≡ (p x || any p ys)
             → any p (elim b [ true ↦ x ∷ y ∷ ys | false ↦ elim c [ true ↦ y ∷ inserted before x ys | false ↦ y ∷ ys ] ]) ≡ (p x || (p y || any p ys))
         go true c e f r = refl
-        go false true e f r = rw r (or-swap (p y) (p x) (any p ys))
-        go false false e f r = rw (by x y (o .total x y e f)) (or-again (p y) (any p ys))
+        go false true e f r = rw r (or-swap (p y) (p x) (any p ys) ∙ or-assoc (p x) (p y) (any p ys))
+        go false false e f r = rw (by x y (o .total x y e f)) (sym (or-self-left (p y) (any p ys)))
 
     pub any-sorted : (p : A → Bool) → ((x y : A) → key x ≡ key y → p x ≡ p y) → (xs : List A) → any p (sorted before xs) ≡ any p xs
     any-sorted p by [] = refl

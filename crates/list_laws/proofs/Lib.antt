@@ -7,3 +7,6 @@ pub mod Parting
 pub mod Building
 pub mod SinglesStand
 pub mod PairsStand
+pub mod Sides
+pub mod Ranks
+pub mod SetsApart

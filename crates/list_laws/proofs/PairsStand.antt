@@ -1,4 +1,4 @@
--- Each glyph pair with a rule stands in one pair set of its section, once.
+-- Each glyph pair with a rule stands in one pair set of its section, once; with the sets apart, pairs stand.
 use mathlib.Core.Path.{_≡_, refl, sym, ap, ap₂, _∙_}
 use mathlib.Core.Bool.{Bool, true, false, _&&_}
 use mathlib.Core.List.{List, [], _∷_, map, reverse}
@@ -13,13 +13,14 @@ use Rattle.spec.specs.Values.{pair-lists, built-pair, built-each}
 use Rattle.spec.specs.Rules.{sections}
 use Rattle.spec.specs.Kinds.{Pair, PairRule, glyph-rules, standing-pairs, standing-groups}
 use Rattle.spec.specs.Build.{BuiltPair, glyph-pairs, formats, of-formats, pair-subtables, first-glyphs, pair-set, class-subtable, pairs-lists, pair-build}
-use Rattle.spec.specs.Promise.{pair-count, PairsStandOnce}
-use Rattle.list_laws.specs.Standing.{Pairs-stand-once}
+use Rattle.spec.specs.Promise.{pair-count, PairsStandOnce, PairsStand}
+use Rattle.list_laws.specs.Standing.{Pairs-stand-once, Pairs-stand}
 use Rattle.list_laws.proofs.Orders.{Rises, sorted-rises}
 use Rattle.list_laws.proofs.Linear.{Linear, by-key, lex, lex-linear, numbers-linear}
 use Rattle.list_laws.proofs.Counting.{in-map, none-in, any-reverse, any-sorted, count-none, count-keep, count-sorted, sum-append, sum-map}
 use Rattle.list_laws.proofs.Parting.{parted}
 use Rattle.list_laws.proofs.Building.{built-any, built-rises, each-section}
+use Rattle.list_laws.proofs.SetsApart.{section-apart}
 
 -- two numbers, the first first
 abbrev pub two-before : ℕ × ℕ → ℕ × ℕ → Bool
@@ -99,3 +100,6 @@ module _ (devices : List Device) (rs : List PairRule) where
 
 pub pairs-stand-once : Pairs-stand-once
 pairs-stand-once l ids = each-section PairsStandOnce _ _ (λ rs i. section-stands (l .devices) rs (l .sets) i) (sections l) ids
+
+pub pairs-stand : Pairs-stand
+pairs-stand l ids = each-section (PairsStand (l .sets)) _ _ (λ rs i. (section-stands (l .devices) rs (l .sets) i, section-apart (l .sets) (l .devices) rs i)) (sections l) ids
