@@ -36,6 +36,14 @@ module _ {A : Type 0} (p : A → Bool) where
       go true r = (h .0, r)
       go false r = r
 
+  pub every-kept : (xs : List A) → Every (λ x. p x ≡ true) (keep p xs)
+  every-kept [] = tt
+  every-kept (x ∷ xs) = go (p x) refl (every-kept xs)
+    where
+      go : (b : Bool) → p x ≡ b → Every (λ y. p y ≡ true) (keep p xs) → Every (λ y. p y ≡ true) (elim b [ true ↦ x ∷ keep p xs | false ↦ keep p xs ])
+      go true e r = (e, r)
+      go false e r = r
+
   pub keep-rises : (before : A → A → Bool) (xs : List A) → Rises before xs → Rises before (keep p xs)
   keep-rises before [] h = tt
   keep-rises before (x ∷ xs) h = go (p x) (keep-rises before xs (h .1))

@@ -43,6 +43,13 @@ module _ {A : Type 0} where
   every-mapped P f [] h = tt
   every-mapped P f (x ∷ xs) h = (h x (inl refl), every-mapped P f xs (λ y i. h y (inr i)))
 
+  pub every-over : {B : Type 0} (P : B → Type 0) (f : A → B) (xs : List A) → Every (λ x. P (f x)) xs → Every P (map f xs)
+  every-over P f xs h = every-mapped P f xs (every-in (λ x. P (f x)) xs h)
+
+  pub every-append : (P : A → Type 0) (xs ys : List A) → Every P xs → Every P ys → Every P (xs ++ ys)
+  every-append P [] ys h k = k
+  every-append P (x ∷ xs) ys h k = (h .0, every-append P xs ys (h .1) k)
+
   pub in-map : {B : Type 0} (f : A → B) (xs : List A) (x : A) → In x xs → In (f x) (map f xs)
   in-map f [] x i = absurd i
   in-map f (y ∷ ys) x (inl e) = inl (ap f e)

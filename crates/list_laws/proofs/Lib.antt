@@ -9,4 +9,6 @@ pub mod SinglesStand
 pub mod PairsStand
 pub mod Sides
 pub mod Ranks
+pub mod PairBuild
 pub mod SetsApart
+pub mod InOrder

@@ -6,20 +6,20 @@ use Prim.Native.Nat.{ℕ, _+_, _*_}
 use native.Mathlib.Nat.{add-zero, zero-mul, one-mul, add-mul}
 use native.Mathlib.Omega.{arith}
 use lib.Dec.{eqb, ltb}
-use lib.ListN.{length, drop}
 use Rattle.spec.specs.Lists.{keep, one-if, count, sum-of, any}
 use Rattle.spec.specs.Entries.{Device}
-use Rattle.spec.specs.Values.{pair-lists, built-pair, built-each}
+use Rattle.spec.specs.Values.{pair-lists, built-pair}
 use Rattle.spec.specs.Rules.{sections}
-use Rattle.spec.specs.Kinds.{Pair, PairRule, glyph-rules, standing-pairs, standing-groups}
-use Rattle.spec.specs.Build.{BuiltPair, glyph-pairs, formats, of-formats, pair-subtables, first-glyphs, pair-set, class-subtable, pairs-lists, pair-build}
+use Rattle.spec.specs.Kinds.{Pair, PairRule, glyph-rules, standing-pairs}
+use Rattle.spec.specs.Build.{BuiltPair, glyph-pairs, formats, of-formats, pair-subtables, first-glyphs, pair-set, pair-build}
 use Rattle.spec.specs.Promise.{pair-count, PairsStandOnce, PairsStand}
-use Rattle.list_laws.specs.Standing.{Pairs-stand-once, Pairs-stand}
+use Rattle.list_laws.specs.Standing.{Pairs-stand-once, Pairs-stand, glyphs-before}
 use Rattle.list_laws.proofs.Orders.{Rises, sorted-rises}
 use Rattle.list_laws.proofs.Linear.{Linear, by-key, lex, lex-linear, numbers-linear}
-use Rattle.list_laws.proofs.Counting.{in-map, none-in, any-reverse, any-sorted, count-none, count-keep, count-sorted, sum-append, sum-map}
+use Rattle.list_laws.proofs.Counting.{in-map, none-in, any-reverse, any-sorted, count-none, count-keep, count-sorted, sum-ones, in-every, sum-append, sum-map}
 use Rattle.list_laws.proofs.Parting.{parted}
 use Rattle.list_laws.proofs.Building.{built-any, built-rises, each-section}
+use Rattle.list_laws.proofs.PairBuild.{built-pairs, class-subtables, every-class}
 use Rattle.list_laws.proofs.SetsApart.{section-apart}
 
 -- two numbers, the first first
@@ -37,9 +37,6 @@ built-key e = (e .first, e .second)
 
 abbrev rule-key : Pair → ℕ × ℕ
 rule-key r = (r .first, r .second)
-
-abbrev pub built-before : BuiltPair → BuiltPair → Bool
-built-before x y = two-before (built-key x) (built-key y)
 
 -- ---- the pair sets of a first glyph
 
@@ -67,39 +64,30 @@ module _ (g h : ℕ) where
       go false e = zero-mul (count asked es) ∙ sym (count-none asked es (λ x i. ap (λ b. b && eqb (x .second) h) (none-in (λ n. eqb n g) (map (λ y. y .first) es) e (in-map (λ y. y .first) es x i))))
 
   -- EACH PAIR ONCE
-  pairs-once : (es : List BuiltPair) → Rises built-before es → sum-of (pair-count g h) (pair-subtables es) ≡ one-if (any asked es)
+  pairs-once : (es : List BuiltPair) → Rises glyphs-before es → sum-of (pair-count g h) (pair-subtables es) ≡ one-if (any asked es)
   pairs-once es rise = sum-map (pair-count g h) (of-formats es) _
       ∙ parted (by-key two-linear built-key) two-linear (λ f. f) es rise formats (λ a b. two-same (formats b) (formats a))
       (λ a. two-linear .self (formats a)) (λ a b s. sym (two-linear .equal (formats b) (formats a) s)) (λ a b i j e. e)
       asked (λ a b s t. two-linear .equal (built-key a) (g, h) s ∙ sym (two-linear .equal (built-key b) (g, h) t))
       (λ f. pair-count g h (of-formats es f)) (λ a i. in-sets (formats a .0) (formats a .1) _ ∙ count-keep (λ e. two-same (formats e) (formats a)) asked es)
 
--- what is built to stand nowhere
-built-none : {A B : Type 0} (f : B → ℕ) (lists : A → List ℕ) (b : A → List ℕ → B) → ((x : A) (ids : List ℕ) → f (b x ids) ≡ 0) → (xs : List A) (ids : List ℕ) → sum-of f (built-each lists b xs ids) ≡ 0
-built-none f lists b h [] ids = refl
-built-none f lists b h (x ∷ xs) ids = rw (h x ids) (rw (built-none f lists b h xs (drop (length (lists x)) ids)) refl)
-
-module _ (devices : List Device) (rs : List PairRule) where
-  abbrev built-glyphs : List ℕ → List BuiltPair
-  built-glyphs ids = built-each pair-lists (built-pair devices) (standing-pairs (glyph-rules rs)) ids
-
-  pub pairs-rise : (ids : List ℕ) → Rises built-before (built-glyphs ids)
-  pairs-rise ids = built-rises rule-key built-key pair-lists (built-pair devices) (λ r i. refl) two-before (standing-pairs (glyph-rules rs)) ids
+module _ (sets : List (List ℕ)) (devices : List Device) (rs : List PairRule) (ids : List ℕ) where
+  pub pairs-rise : Rises glyphs-before (built-pairs sets devices rs ids)
+  pairs-rise = built-rises rule-key built-key pair-lists (built-pair devices) (λ r i. refl) two-before (standing-pairs (glyph-rules rs)) ids
       (sorted-rises (by-key two-linear rule-key) (reverse (glyph-rules rs)))
 
-  section-stands : (sets : List (List ℕ)) (ids : List ℕ) → PairsStandOnce rs (pair-build .subtables sets devices rs ids)
-  section-stands sets ids g h =
-      let n = length (pairs-lists (standing-pairs (glyph-rules rs))) in
+  section-stands : PairsStandOnce rs (pair-build .subtables sets devices rs ids)
+  section-stands g h =
       let p : ℕ × ℕ → Bool = λ k. two-same k (g, h) in
-      let a = sum-append (pair-count g h) (pair-subtables (built-glyphs ids)) _ in
-      let b = pairs-once g h (built-glyphs ids) (pairs-rise ids) in
-      let c = built-none (pair-count g h) pairs-lists (λ x i. class-subtable sets (built-each pair-lists (built-pair devices) x i)) (λ x i. refl) (standing-groups sets rs) (drop n ids) in
+      let a = sum-append (pair-count g h) (pair-subtables (built-pairs sets devices rs ids)) (class-subtables sets devices rs ids) in
+      let b = pairs-once g h (built-pairs sets devices rs ids) pairs-rise in
+      let c = sum-ones (pair-count g h) (λ s. false) _ (every-class sets devices (λ s. pair-count g h s ≡ 0) rs ids (in-every _ (λ x m i. refl))) ∙ count-none (λ s. false) (class-subtables sets devices rs ids) (λ x i. refl) in
       let d = built-any rule-key built-key pair-lists (built-pair devices) (λ r i. refl) p (standing-pairs (glyph-rules rs)) ids in
       let e = any-sorted (by-key two-linear rule-key) (λ r. p (rule-key r)) (λ x y s. ap p s) (reverse (glyph-rules rs)) in
       a ∙ ap₂ (λ i j. i + j) b c ∙ add-zero _ ∙ ap one-if (d ∙ e ∙ any-reverse _ (glyph-rules rs))
 
 pub pairs-stand-once : Pairs-stand-once
-pairs-stand-once l ids = each-section PairsStandOnce _ _ (λ rs i. section-stands (l .devices) rs (l .sets) i) (sections l) ids
+pairs-stand-once l ids = each-section PairsStandOnce _ _ (section-stands (l .sets) (l .devices)) (sections l) ids
 
 pub pairs-stand : Pairs-stand
-pairs-stand l ids = each-section (PairsStand (l .sets)) _ _ (λ rs i. (section-stands (l .devices) rs (l .sets) i, section-apart (l .sets) (l .devices) rs i)) (sections l) ids
+pairs-stand l ids = each-section (PairsStand (l .sets)) _ _ (λ rs i. (section-stands (l .sets) (l .devices) rs i, section-apart (l .sets) (l .devices) rs i)) (sections l) ids

@@ -64,7 +64,7 @@ module _ (es : List BuiltSingle) (rise : Rises glyph-before es) where
       (count (λ e. eqb (e .glyph) g)) (λ a i. count-keep (together es a) (λ e. eqb (e .glyph) g) es)
 
 module _ (devices : List Device) (rs : List SingleRule) (ids : List ℕ) where
-  abbrev built-singles : List BuiltSingle
+  abbrev pub built-singles : List BuiltSingle
   built-singles = built-each single-lists (built-single devices) (standing-singles rs) ids
 
   pub singles-rise : Rises glyph-before built-singles
