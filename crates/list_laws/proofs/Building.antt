@@ -1,10 +1,10 @@
--- Things built one after the other keep their keys, and sections stand in their order.
+-- Things built one after the other keep their keys; and what holds of each section, built, holds section by section.
 use mathlib.Core.Path.{_≡_, refl, ap₂, subst, sym}
-use mathlib.Core.Bool.{Bool, true, false, _||_}
+use mathlib.Core.Bool.{Bool, true, _||_}
 use mathlib.Core.List.{List, [], _∷_}
 use Prim.Native.Nat.{ℕ}
 use lib.ListN.{length, drop}
-use Rattle.spec.specs.Lists.{Every, any, keep}
+use Rattle.spec.specs.Lists.{Every, any}
 use Rattle.spec.specs.Values.{built-each}
 use Rattle.spec.specs.Promise.{EachSection}
 use Rattle.list_laws.proofs.Orders.{Rises, every-map}
@@ -25,32 +25,6 @@ module _ {A B K : Type 0} (key : A → K) (key′ : B → K) (lists : A → List
   pub built-rises : (lt : K → K → Bool) (xs : List A) (ids : List ℕ) → Rises (λ x y. lt (key x) (key y)) xs → Rises (λ x y. lt (key′ x) (key′ y)) (built-each lists f xs ids)
   built-rises lt [] ids h = tt
   built-rises lt (x ∷ xs) ids h = (built-every (λ k. lt (key′ (f x ids)) k ≡ true) xs _ (subst (λ j. Every (λ y. lt j (key y) ≡ true) xs) (sym (keeps x ids)) (h .0)), built-rises lt xs _ (h .1))
-
--- those that pass a test keep their order
-module _ {A : Type 0} (p : A → Bool) where
-  pub every-keep : (P : A → Type 0) (xs : List A) → Every P xs → Every P (keep p xs)
-  every-keep P [] h = tt
-  every-keep P (x ∷ xs) h = go (p x) (every-keep P xs (h .1))
-    where
-      go : (b : Bool) → Every P (keep p xs) → Every P (elim b [ true ↦ x ∷ keep p xs | false ↦ keep p xs ])
-      go true r = (h .0, r)
-      go false r = r
-
-  pub every-kept : (xs : List A) → Every (λ x. p x ≡ true) (keep p xs)
-  every-kept [] = tt
-  every-kept (x ∷ xs) = go (p x) refl (every-kept xs)
-    where
-      go : (b : Bool) → p x ≡ b → Every (λ y. p y ≡ true) (keep p xs) → Every (λ y. p y ≡ true) (elim b [ true ↦ x ∷ keep p xs | false ↦ keep p xs ])
-      go true e r = (e, r)
-      go false e r = r
-
-  pub keep-rises : (before : A → A → Bool) (xs : List A) → Rises before xs → Rises before (keep p xs)
-  keep-rises before [] h = tt
-  keep-rises before (x ∷ xs) h = go (p x) (keep-rises before xs (h .1))
-    where
-      go : (b : Bool) → Rises before (keep p xs) → Rises before (elim b [ true ↦ x ∷ keep p xs | false ↦ keep p xs ])
-      go true r = (every-keep (λ y. before x y ≡ true) xs (h .0), r)
-      go false r = r
 
 pub each-section : {R O : Type 0} (P : List R → List O → Type 0) (lists : List R → List ℕ) (f : List R → List ℕ → List O) → ((rs : List R) (ids : List ℕ) → P rs (f rs ids))
     → (ss : List (List R)) (ids : List ℕ) → EachSection P ss (built-each lists f ss ids)

@@ -1,7 +1,7 @@
 -- Subtables stand in their order, and so does what they hold.
 use mathlib.Core.Path.{_≡_, refl}
 use mathlib.Core.Bool.{Bool, true}
-use mathlib.Core.List.{List, [], _∷_, _++_, map}
+use mathlib.Core.List.{List, [], _∷_, map}
 use Prim.Native.Nat.{ℕ}
 use lib.ListN.{length, drop}
 use Rattle.spec.specs.Lists.{Every, same-list, list-before}
@@ -13,8 +13,9 @@ use Rattle.spec.specs.Build.{BuiltSingle, BuiltPair, together, subtable-of, sin
 use Rattle.list_laws.specs.Standing.{SinglesInOrder, Singles-in-order, glyphs-before, sets-before, may-precede, PairsRise, PairsInOrder, Pairs-in-order}
 use Rattle.list_laws.proofs.Orders.{Rises, every-map, every-sorted, sorted-rises}
 use Rattle.list_laws.proofs.Linear.{by-key, lex, lex-linear, numbers-linear, falling-linear}
-use Rattle.list_laws.proofs.Counting.{in-every, every-mapped, every-over, every-append}
-use Rattle.list_laws.proofs.Building.{every-built, built-rises, every-kept, keep-rises}
+use Rattle.list_laws.proofs.Within.{in-every, every-mapped, every-kept}
+use Rattle.list_laws.proofs.Rising.{keep-rises, map-rises, rises-append}
+use Rattle.list_laws.proofs.Building.{every-built, built-rises}
 use Rattle.list_laws.proofs.SinglesStand.{glyph-before, subtable-key, built-singles, singles-rise}
 use Rattle.list_laws.proofs.PairsStand.{two-linear, two-same, pairs-rise}
 use Rattle.list_laws.proofs.SetsApart.{cell-key, by-sets}
@@ -30,14 +31,6 @@ pub singles-in-order : Singles-in-order
 singles-in-order l ids = every-built SinglesInOrder _ _ (sections l) ids (in-every (sections l) (λ rs m i. subtables-in-order (built-singles (l .devices) rs i) (singles-rise (l .devices) rs i)))
 
 -- ---- pair
-
-map-rises : {A B : Type 0} (before : B → B → Bool) (f : A → B) (xs : List A) → Rises (λ x y. before (f x) (f y)) xs → Rises before (map f xs)
-map-rises before f [] h = tt
-map-rises before f (x ∷ xs) h = (every-over (λ y. before (f x) y ≡ true) f xs (h .0), map-rises before f xs (h .1))
-
-rises-append : {A : Type 0} (before : A → A → Bool) (xs ys : List A) → Rises before xs → Every (λ x. Every (λ y. before x y ≡ true) ys) xs → Rises before ys → Rises before (xs ++ ys)
-rises-append before [] ys h c k = k
-rises-append before (x ∷ xs) ys h c k = (every-append (λ y. before x y ≡ true) xs ys (h .0) (c .0), rises-append before xs ys (h .1) (c .1) k)
 
 -- what may stand in any order
 any-order : {A B : Type 0} (before : B → B → Bool) (lists : A → List ℕ) (f : A → List ℕ → B) → ((x y : A) (i j : List ℕ) → before (f x i) (f y j) ≡ true) → (xs : List A) (ids : List ℕ) → Rises before (built-each lists f xs ids)

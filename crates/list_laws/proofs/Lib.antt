@@ -2,7 +2,9 @@ pub mod Orders
 pub mod Linear
 pub mod Sames
 pub mod Together
+pub mod Within
 pub mod Counting
+pub mod Rising
 pub mod Parting
 pub mod Building
 pub mod SinglesStand

@@ -7,7 +7,7 @@ use Rattle.spec.specs.Entries.{Device}
 use Rattle.spec.specs.Values.{pair-lists, built-pair, built-each}
 use Rattle.spec.specs.Kinds.{Pair, PairRule, class-rules, glyph-rules, groups, standing-cells, standing-groups, standing-pairs}
 use Rattle.spec.specs.Build.{BuiltPair, PairSubtable, of-formats, class-subtable, pairs-lists, pair-build}
-use Rattle.list_laws.proofs.Counting.{every-mapped, every-over, every-append}
+use Rattle.list_laws.proofs.Within.{every-mapped, every-over, every-append}
 use Rattle.list_laws.proofs.Building.{every-built}
 
 module _ (sets : List (List ℕ)) (devices : List Device) where

@@ -16,7 +16,9 @@ use Rattle.spec.specs.Promise.{pair-count, PairsStandOnce, PairsStand}
 use Rattle.list_laws.specs.Standing.{Pairs-stand-once, Pairs-stand, glyphs-before}
 use Rattle.list_laws.proofs.Orders.{Rises, sorted-rises}
 use Rattle.list_laws.proofs.Linear.{Linear, by-key, lex, lex-linear, numbers-linear}
-use Rattle.list_laws.proofs.Counting.{in-map, none-in, any-reverse, any-sorted, count-none, count-keep, count-sorted, sum-ones, in-every, sum-append, sum-map}
+use Rattle.list_laws.proofs.Within.{in-every, in-map, none-in, any-reverse}
+use Rattle.list_laws.proofs.Counting.{count-none, count-keep, sum-ones, sum-append, sum-map}
+use Rattle.list_laws.proofs.Rising.{any-sorted, count-sorted}
 use Rattle.list_laws.proofs.Parting.{parted}
 use Rattle.list_laws.proofs.Building.{built-any, built-rises, each-section}
 use Rattle.list_laws.proofs.PairBuild.{built-pairs, class-subtables, every-class}
@@ -32,7 +34,7 @@ two-same x y = eqb (x .0) (y .0) && eqb (x .1) (y .1)
 pub two-linear : Linear two-before two-same
 two-linear = lex-linear numbers-linear numbers-linear
 
-abbrev pub built-key : BuiltPair → ℕ × ℕ
+abbrev built-key : BuiltPair → ℕ × ℕ
 built-key e = (e .first, e .second)
 
 abbrev rule-key : Pair → ℕ × ℕ

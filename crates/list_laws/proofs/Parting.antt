@@ -6,7 +6,9 @@ use Prim.Native.Nat.{ℕ}
 use Rattle.spec.specs.Lists.{one-if, count, sum-of, any, sorted}
 use Rattle.list_laws.proofs.Orders.{Order, Rises, every-sorted, false-true}
 use Rattle.list_laws.proofs.Linear.{Linear, by-key, both}
-use Rattle.list_laws.proofs.Counting.{In, every-mapped, in-map, any-in, in-any, none-in, refuted, count-none, sum-ones, rises-one, rising-count, count-sorted}
+use Rattle.list_laws.proofs.Within.{In, refuted, every-mapped, in-map, any-in, in-any, none-in}
+use Rattle.list_laws.proofs.Counting.{count-none, sum-ones}
+use Rattle.list_laws.proofs.Rising.{rises-one, rising-count, count-sorted}
 
 -- the elements rise by labels, the parts are sorted by keys; elements that are the same have one part, different parts have
 -- different keys; one label passes q, and f tells how many of a part pass it

@@ -12,7 +12,9 @@ use Rattle.spec.specs.Classes.{set-before, rank, class-among, class-of}
 use Rattle.spec.specs.Promise.{SetsApart}
 use Rattle.list_laws.proofs.Orders.{Order, Rises, false-true}
 use Rattle.list_laws.proofs.Linear.{by-key, lex-linear, numbers-linear, falling-linear, lists-linear}
-use Rattle.list_laws.proofs.Counting.{In, refuted, count-less, in-place, one-place}
+use Rattle.list_laws.proofs.Within.{In, refuted, in-place}
+use Rattle.list_laws.proofs.Counting.{count-less}
+use Rattle.list_laws.proofs.Rising.{one-place}
 use Rattle.list_laws.proofs.Sides.{Apart}
 
 -- what sets are numbered by

@@ -14,7 +14,7 @@ use Rattle.spec.specs.Promise.{SetsApart, ClassesApart}
 use Rattle.list_laws.specs.Standing.{Sets-apart}
 use Rattle.list_laws.proofs.Orders.{Order, every-map, every-sorted, sorted-rises}
 use Rattle.list_laws.proofs.Linear.{by-key, lex-linear, lists-linear}
-use Rattle.list_laws.proofs.Counting.{In, every-in, in-every, every-over}
+use Rattle.list_laws.proofs.Within.{In, every-in, in-every, every-over}
 use Rattle.list_laws.proofs.Building.{every-built, built-every}
 use Rattle.list_laws.proofs.PairBuild.{cells, every-subtable}
 use Rattle.list_laws.proofs.Sides.{Apart, BothApart, groups-apart}

@@ -4,34 +4,19 @@ use mathlib.Core.Bool.{Bool, true, false, not}
 use mathlib.Core.List.{List, [], _∷_, _++_, map}
 use mathlib.Core.Logic.{_⊎_, inl, inr}
 use Prim.Native.Nat.{ℕ}
-use lib.Dec.{eqb}
 use Rattle.std.proofs.shelf.Tests.{or-cases, not-true}
-use Rattle.spec.specs.Lists.{Every, all, has}
+use Rattle.spec.specs.Lists.{Every, has}
 use Rattle.spec.specs.Kinds.{Pair, set-of, disjoint, side-takes, joins, grouped, groups}
 use Rattle.list_laws.proofs.Orders.{false-true}
-use Rattle.list_laws.proofs.Linear.{numbers-linear, both}
-use Rattle.list_laws.proofs.Counting.{In, in-map, map-in, any-in}
+use Rattle.list_laws.proofs.Linear.{both}
+use Rattle.list_laws.proofs.Within.{In, in-map, map-in, all-in, in-front, has-in}
 
 -- elements whose sets share a glyph have the same set
 abbrev pub Apart : {A : Type 0} → (A → List ℕ) → List A → Type 0
 Apart {A} f xs = (a b : A) → In a xs → In b xs → (g : ℕ) → has g (f a) ≡ true → has g (f b) ≡ true → f a ≡ f b
 
-all-in : {A : Type 0} (p : A → Bool) (xs : List A) → all p xs ≡ true → (x : A) → In x xs → p x ≡ true
-all-in p [] h x i = absurd i
-all-in p (y ∷ ys) h x (inl e) = ap p e ∙ both (p y) (all p ys) h .0
-all-in p (y ∷ ys) h x (inr i) = all-in p ys (both (p y) (all p ys) h .1) x i
-
-has-in : (g : ℕ) (xs : List ℕ) → has g xs ≡ true → In g xs
-has-in g xs h = let (x, i, e) = any-in (λ x. eqb x g) xs h in subst (λ n. In n xs) (numbers-linear .equal x g e) i
-
 not-disjoint : (s t : List ℕ) (g : ℕ) → has g s ≡ true → has g t ≡ true → disjoint s t ≡ true → ⊥
 not-disjoint s t g h k d = false-true (sym (not-true (has g t) (all-in (λ x. not (has x t)) s d g (has-in g s h))) ∙ k)
-
-in-front : {A : Type 0} (xs : List A) (x a : A) → In a (xs ++ (x ∷ [])) → In a xs ⊎ (a ≡ x)
-in-front [] x a (inl e) = inr e
-in-front [] x a (inr i) = absurd i
-in-front (y ∷ ys) x a (inl e) = inl (inl e)
-in-front (y ∷ ys) x a (inr i) = elim (in-front ys x a i) [ inl j ↦ inl (inr j) | inr e ↦ inr e ]
 
 -- one more
 apart-push : {A : Type 0} (f : A → List ℕ) (xs : List A) (x : A) → Apart f xs → ((a : A) → In a xs → (g : ℕ) → has g (f a) ≡ true → has g (f x) ≡ true → f a ≡ f x) → Apart f (xs ++ (x ∷ []))

@@ -17,14 +17,16 @@ use Rattle.list_laws.specs.Standing.{Singles-stand}
 use Rattle.list_laws.proofs.Orders.{Order, Rises, sorted-rises, false-true}
 use Rattle.list_laws.proofs.Linear.{by-key, lex-linear, numbers-linear, falling-linear}
 use Rattle.list_laws.proofs.Together.{together-is-equivalence}
-use Rattle.list_laws.proofs.Counting.{In, any-sorted, rises-one, count-keep, same-tests}
+use Rattle.list_laws.proofs.Within.{In, same-tests}
+use Rattle.list_laws.proofs.Counting.{count-keep}
+use Rattle.list_laws.proofs.Rising.{rises-one, any-sorted}
 use Rattle.list_laws.proofs.Parting.{parted}
 use Rattle.list_laws.proofs.Building.{built-any, built-rises, each-section}
 
 abbrev pub glyph-before : BuiltSingle → BuiltSingle → Bool
 glyph-before x y = ltb (x .glyph) (y .glyph)
 
-pub by-glyph : Order glyph-before (λ e. e .glyph)
+by-glyph : Order glyph-before (λ e. e .glyph)
 by-glyph = by-key numbers-linear (λ e. e .glyph)
 
 -- what subtables are ordered by
@@ -57,7 +59,7 @@ module _ (es : List BuiltSingle) (rise : Rises glyph-before es) where
       joined a x f ∙ ap (subtable-of es) s ∙ sym (joined b y g)
 
   -- EACH GLYPH ONCE
-  pub singles-once : (g : ℕ) → sum-of (count (λ e. eqb (e .glyph) g)) (single-subtables es) ≡ one-if (any (λ e. eqb (e .glyph) g) es)
+  singles-once : (g : ℕ) → sum-of (count (λ e. eqb (e .glyph) g)) (single-subtables es) ≡ one-if (any (λ e. eqb (e .glyph) g) es)
   singles-once g = parted by-glyph (lex-linear falling-linear numbers-linear) subtable-key es rise (subtable-of es) (together es)
       (together-is-equivalence es .reflexive) joined keyed
       (λ e. eqb (e .glyph) g) (λ a b h k. numbers-linear .equal _ _ h ∙ sym (numbers-linear .equal _ _ k))
