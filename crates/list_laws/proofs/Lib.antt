@@ -7,3 +7,15 @@ pub mod Holding
 pub mod SingleAnswers
 pub mod Groups
 pub mod PairAnswers
+pub mod Within
+pub mod Counting
+pub mod Rising
+pub mod Parting
+pub mod Building
+pub mod SinglesStand
+pub mod PairsStand
+pub mod Sides
+pub mod Ranks
+pub mod PairBuild
+pub mod SetsApart
+pub mod InOrder

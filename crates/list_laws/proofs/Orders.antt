@@ -7,17 +7,13 @@ use Rattle.std.specs.declared.option.Option.the-variants.{Some, None}
 use Rattle.std.proofs.shelf.Ways.{tells}
 use native.Mathlib.Omega.{arith}
 use Rattle.spec.specs.Lists.{Every, first, last, or-else, inserted, sorted}
+pub use Rattle.list_laws.specs.Rising.{Rises}
 
 -- `before` goes by keys, and is total and transitive on them
 pub record Order {A K : Type 0} (before : A → A → Bool) (key : A → K) : Type 0 where
   pub same : (x y : A) → key x ≡ key y → before x y ≡ false
   pub total : (x y : A) → before x y ≡ false → before y x ≡ false → key x ≡ key y
   pub trans : (x y z : A) → before x y ≡ true → before y z ≡ true → before x z ≡ true
-
--- each stands before all behind it
-abbrev pub Rises : {A : Type 0} → (A → A → Bool) → List A → Type 0
-Rises before [] = Unit {0}
-Rises before (x ∷ xs) = Every (λ y. before x y ≡ true) xs × Rises before xs
 
 pub every-map : {A : Type 0} {P Q : A → Type 0} → ((x : A) → P x → Q x) → (xs : List A) → Every P xs → Every Q xs
 every-map f [] h = tt

@@ -1,2 +1,4 @@
 pub mod Says
 pub mod Answering
+pub mod Rising
+pub mod Standing
