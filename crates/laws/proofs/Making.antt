@@ -18,6 +18,7 @@ use Rattle.spec.specs.Rules.{Call, enter-set, enter-device, enter-deltas, inser
 use Rattle.spec.specs.Stores.{Store}
 use Rattle.spec.specs.Runs.{Kind, Run, ends, builds, goes, Does}
 use Rattle.list_laws.proofs.Orders.{every-map, false-true}
+use Rattle.list_laws.proofs.Within.{every-append}
 use Rattle.list_laws.proofs.Members.{some-none}
 use Rattle.laws.specs.Conditions.{Within, Fits-device}
 use Rattle.laws.specs.Made.{Fits-values, Fits-call, Fits-rule, Made}
@@ -45,10 +46,6 @@ good-device : (start end : ℕ) (vs : List ℤ) → device-fault start end (leng
 good-device start end vs e = grind (arith, tells)
 
 -- ---- interning keeps what is there, and adds at most the list
-
-every-append : {A : Type 0} (P : A → Type 0) (xs ys : List A) → Every P xs → Every P ys → Every P (xs ++ ys)
-every-append P [] ys h k = k
-every-append P (x ∷ xs) ys h k = (h .0, every-append P xs ys (h .1) k)
 
 every-interned : {A : Type 0} (P : A → Type 0) (eq : A → A → Bool) (xs : List A) (x : A) → Every P xs → P x → Every P (interned eq xs x)
 every-interned P eq xs x h k = go (any (λ y. eq y x) xs)

@@ -21,7 +21,8 @@ use Rattle.list_laws.proofs.Orders.{every-map, every-sorted, false-true}
 use Rattle.list_laws.proofs.Linear.{numbers-linear}
 use Rattle.list_laws.proofs.Sames.{record-same}
 use Rattle.list_laws.proofs.Together.{together-is-equivalence}
-use Rattle.list_laws.proofs.Members.{Member, every-all, every-member, every-map-list, every-keep, every-kept, keep-member, every-at, first-found, some-none}
+use Rattle.list_laws.proofs.Within.{In, every-append, every-keep, every-kept, every-over}
+use Rattle.list_laws.proofs.Members.{every-member, keep-member}
 use Rattle.list_laws.proofs.Holding.{built-every}
 use Rattle.list_laws.proofs.SingleAnswers.{rule-order, subtable-order}
 use Rattle.laws.specs.Conditions.{Singles-of, Fits-record}
@@ -48,7 +49,7 @@ Entry P e = Good P (e .values)
 abbrev pub Fit : (ℕ → Type 0) → List BuiltSingle → Type 0
 Fit P s = (1 ≤ length s) × ((f : ℕ) × Singles-of f s) × Every (Entry P) s
 
-not-empty : {A : Type 0} (x : A) (xs : List A) → Member x xs → 1 ≤ length xs
+not-empty : {A : Type 0} (x : A) (xs : List A) → In x xs → 1 ≤ length xs
 not-empty x [] m = absurd m
 not-empty x (y ∷ xs) m = omega arith
 
@@ -56,9 +57,9 @@ every-both : {A : Type 0} (P Q : A → Type 0) (xs : List A) → Every P xs → 
 every-both P Q [] h k = tt
 every-both P Q (x ∷ xs) h k = ((h .0, k .0), every-both P Q xs (h .1) (k .1))
 
-subtable-fits : (P : ℕ → Type 0) (es : List BuiltSingle) → Every (Entry P) es → (a : BuiltSingle) → Member a es → Fit P (subtable-of es a)
+subtable-fits : (P : ℕ → Type 0) (es : List BuiltSingle) → Every (Entry P) es → (a : BuiltSingle) → In a es → Fit P (subtable-of es a)
 subtable-fits P es h a m =
-    let kept = every-keep (Entry P) (together es a) es h in
+    let kept = every-keep (together es a) (Entry P) es h in
     let forms = every-map (λ x e. together-format es a x e) (subtable-of es a) (every-kept (together es a) es) in (
       not-empty a (subtable-of es a) (keep-member (together es a) a es m (together-is-equivalence es .reflexive a)),
       (format (a .values), every-both (λ e. format (e .values) ≡ format (a .values)) (λ e. Fits-record (e .values)) (subtable-of es a) forms (every-map (λ e g. g .0) (subtable-of es a) kept)),
@@ -67,11 +68,7 @@ subtable-fits P es h a m =
 
 every-concat : {A : Type 0} (P : A → Type 0) (xss : List (List A)) → Every (Every P) xss → Every P (concat xss)
 every-concat P [] h = tt
-every-concat P (xs ∷ xss) h = join xs (h .0) (every-concat P xss (h .1))
-  where
-    join : (ys : List _) → Every P ys → Every P (concat xss) → Every P (ys ++ concat xss)
-    join [] k r = r
-    join (y ∷ ys) k r = (k .0, join ys (k .1) r)
+every-concat P (xs ∷ xss) h = every-append P xs (concat xss) (h .0) (every-concat P xss (h .1))
 
 module _ (P : ℕ → Type 0) (l : RuleList SingleRule) (made : Made single-rules l) where
   rule-fits : (r : SingleRule) (ids : List ℕ) → Fits-rule single-rules l r → Own l (made .devices) P ids (single-lists r) → Entry P (built-single (l .devices) r ids)
@@ -81,7 +78,7 @@ module _ (P : ℕ → Type 0) (l : RuleList SingleRule) (made : Made single-rule
   section-fits rs ids f h =
       let es = built-each single-lists (built-single (l .devices)) (standing-singles rs) ids in
       let good = built-every (λ k n. P k) single-lists (built-single (l .devices)) (Fits-rule single-rules l) (Entry P) rule-fits (standing-singles rs) ids (every-sorted rule-order (Fits-rule single-rules l) rs f) h in
-      every-sorted subtable-order (Fit P) (map (subtable-of es) es) (every-map-list (Fit P) (subtable-of es) es (every-map (λ a m. subtable-fits P es good a m) es (every-member es)))
+      every-sorted subtable-order (Fit P) (map (subtable-of es) es) (every-over (Fit P) (subtable-of es) es (every-map (λ a m. subtable-fits P es good a m) es (every-member es)))
 
   -- EVERY SUBTABLE OF A BUILD FITS
   pub singles-fit : (ids : List ℕ) → Matched (λ k n. P k) ids (numbers-to-add single-build l) → Every (Fit P) (built single-build l ids)

@@ -22,7 +22,8 @@ use Rattle.spec.specs.Promise.{single-pos, Agrees, Records, StoreDelta}
 use Rattle.list_laws.specs.Answering.{Matched}
 use Rattle.list_laws.specs.Says.{single-says, built-adjustments}
 use Rattle.list_laws.proofs.Orders.{every-map}
-use Rattle.list_laws.proofs.Members.{first-found, every-at, map-map, map-decided, decided-same, some-none}
+use Rattle.list_laws.proofs.Within.{every-in}
+use Rattle.list_laws.proofs.Members.{first-found, map-map, map-decided, decided-same, some-none}
 use Rattle.list_laws.proofs.Holding.{matched-map, matched-weaken}
 use Rattle.list_laws.proofs.SingleAnswers.{singles-answer}
 use Rattle.laws.specs.Descriptions.{record-read, single-read, first-said}
@@ -43,7 +44,7 @@ says-good P g s h r e = go (first (λ x. eqb (x .glyph) g) s) refl e
   where
     go : (o : Option BuiltSingle) → first (λ x. eqb (x .glyph) g) s ≡ o → map-some (λ x. x .values) o ≡ Some r → Every (Ids P) (build-order r)
     go None u e = some-none (sym e)
-    go (Some x) u e = subst (λ v. Every (Ids P) (build-order v)) (same e) (every-at (λ y. Every (Ids P) (build-order (y .values))) x s (every-map (λ y k. k .1) s (h .2)) (first-found (λ y. eqb (y .glyph) g) s x u .0))
+    go (Some x) u e = subst (λ v. Every (Ids P) (build-order v)) (same e) (every-in (λ y. Every (Ids P) (build-order (y .values))) s (every-map (λ y k. k .1) s (h .2)) x (first-found (λ y. eqb (y .glyph) g) s x u .0))
       where
         same : {u v : ValueRecord DeviceOrVariationIndex} → _≡_ {A = Option (ValueRecord DeviceOrVariationIndex)} (Some u) (Some v) → u ≡ v
         same e = cc

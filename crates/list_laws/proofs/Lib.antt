@@ -5,7 +5,6 @@ pub mod Together
 pub mod Members
 pub mod Holding
 pub mod SingleAnswers
-pub mod Groups
 pub mod PairAnswers
 pub mod Within
 pub mod Counting

@@ -7,46 +7,30 @@ use Rattle.std.specs.declared.option.Option.{Option}
 use Rattle.std.specs.declared.option.Option.the-variants.{Some, None}
 use Rattle.spec.specs.Lists.{Every, keep, any, first, last, or-else, map-some, decided, concat, inserted, sorted}
 use Rattle.list_laws.proofs.Orders.{Order, Rises, false-true, or-else-none}
+use Rattle.list_laws.proofs.Within.{In, every-in, in-every, every-keep}
 
 -- some element has the property
 abbrev pub Any : {A : Type 0} → (A → Type 0) → List A → Type 0
 Any P [] = ⊥
 Any P (x ∷ xs) = P x ⊎ Any P xs
 
-abbrev pub Member : {A : Type 0} → A → List A → Type 0
-Member x xs = Any (λ y. y ≡ x) xs
-
 pub any-map : {A : Type 0} {P Q : A → Type 0} → ((x : A) → P x → Q x) → (xs : List A) → Any P xs → Any Q xs
 any-map f [] h = absurd h
 any-map f (x ∷ xs) (inl h) = inl (f x h)
 any-map f (x ∷ xs) (inr h) = inr (any-map f xs h)
-
--- what every element has, an element has
-pub every-at : {A : Type 0} (P : A → Type 0) (x : A) (xs : List A) → Every P xs → Member x xs → P x
-every-at P x [] h m = absurd m
-every-at P x (y ∷ ys) h (inl e) = subst P e (h .0)
-every-at P x (y ∷ ys) h (inr m) = every-at P x ys (h .1) m
 
 pub every-all : {A : Type 0} {P : A → Type 0} → ((x : A) → P x) → (xs : List A) → Every P xs
 every-all f [] = tt
 every-all f (x ∷ xs) = (f x, every-all f xs)
 
 -- every element is there
-every-in : {A : Type 0} (xs ys : List A) → ((y : A) → Member y ys → Member y xs) → Every (λ y. Member y xs) ys
-every-in xs [] f = tt
-every-in xs (y ∷ ys) f = (f y (inl refl), every-in xs ys (λ z m. f z (inr m)))
+pub every-member : {A : Type 0} (xs : List A) → Every (λ x. In x xs) xs
+every-member xs = in-every xs (λ x i. i)
 
-pub every-member : {A : Type 0} (xs : List A) → Every (λ x. Member x xs) xs
-every-member xs = every-in xs xs (λ y m. m)
-
-pub map-member : {A B : Type 0} (f : A → B) (x : A) (xs : List A) → Member x xs → Any (λ y. y ≡ f x) (map f xs)
+pub map-member : {A B : Type 0} (f : A → B) (x : A) (xs : List A) → In x xs → Any (λ y. y ≡ f x) (map f xs)
 map-member f x [] m = absurd m
-map-member f x (y ∷ ys) (inl e) = inl (ap f e)
+map-member f x (y ∷ ys) (inl e) = inl (ap f (sym e))
 map-member f x (y ∷ ys) (inr m) = inr (map-member f x ys m)
-
-pub every-map-list : {A B : Type 0} (P : B → Type 0) (f : A → B) (xs : List A) → Every (λ x. P (f x)) xs → Every P (map f xs)
-every-map-list P f [] h = tt
-every-map-list P f (x ∷ xs) h = (h .0, every-map-list P f xs (h .1))
 
 -- ---- the first that passes a test
 
@@ -63,12 +47,12 @@ pub first-skips : {A : Type 0} (p : A → Bool) (x : A) (xs : List A) → p x �
 first-skips {A} p x xs e = ap {B = Option A} (λ b. elim b [ true ↦ Some x | false ↦ first p xs ]) e
 
 -- it is there and passes
-pub first-found : {A : Type 0} (p : A → Bool) (xs : List A) (x : A) → first p xs ≡ Some x → Member x xs × (p x ≡ true)
+pub first-found : {A : Type 0} (p : A → Bool) (xs : List A) (x : A) → first p xs ≡ Some x → In x xs × (p x ≡ true)
 first-found p [] x e = some-none (sym e)
 first-found {A} p (y ∷ ys) x e = go (p y) refl e (λ h. first-found p ys x h)
   where
-    go : (b : Bool) → p y ≡ b → _≡_ {A = Option A} (elim b [ true ↦ Some y | false ↦ first p ys ]) (Some x) → (first p ys ≡ Some x → Member x ys × (p x ≡ true)) → Member x (y ∷ ys) × (p x ≡ true)
-    go true f e r = let s = some-same e in (inl s, subst (λ z. p z ≡ true) s f)
+    go : (b : Bool) → p y ≡ b → _≡_ {A = Option A} (elim b [ true ↦ Some y | false ↦ first p ys ]) (Some x) → (first p ys ≡ Some x → In x ys × (p x ≡ true)) → In x (y ∷ ys) × (p x ≡ true)
+    go true f e r = let s = some-same e in (inl (sym s), subst (λ z. p z ≡ true) s f)
     go false f e r = let m = r e in (inr (m .0), m .1)
 
 -- at most one element passes
@@ -79,14 +63,6 @@ Unique p (x ∷ xs) = (p x ≡ true → Every (λ y. p y ≡ false) xs) × Uniqu
 pub none-passes : {A : Type 0} (p : A → Bool) (xs : List A) → Every (λ y. p y ≡ false) xs → first p xs ≡ None
 none-passes p [] h = refl
 none-passes p (x ∷ xs) h = first-skips p x xs (h .0) ∙ none-passes p xs (h .1)
-
-pub every-keep : {A : Type 0} (P : A → Type 0) (q : A → Bool) (xs : List A) → Every P xs → Every P (keep q xs)
-every-keep P q [] h = tt
-every-keep P q (x ∷ xs) h = go (q x) (every-keep P q xs (h .1))
-  where
-    go : (b : Bool) → Every P (keep q xs) → Every P (elim b [ true ↦ x ∷ keep q xs | false ↦ keep q xs ])
-    go true r = (h .0, r)
-    go false r = r
 
 -- among those kept, the one that passes is the one of the whole list, or none
 abbrev pub if-kept : {A : Type 0} → (A → Bool) → Option A → Option A
@@ -104,7 +80,7 @@ first-keep {A} p q (x ∷ xs) u = go (q x) (p x) refl refl (first-keep p q xs (u
         → first p (elim b [ true ↦ x ∷ keep q xs | false ↦ keep q xs ]) ≡ if-kept q (elim c [ true ↦ Some x | false ↦ first p xs ])
     go true true f g r = first-takes p x (keep q xs) g ∙ sym (kept-some q x true f)
     go true false f g r = first-skips p x (keep q xs) g ∙ r
-    go false true f g r = none-passes p (keep q xs) (every-keep (λ y. p y ≡ false) q xs (u .0 g)) ∙ sym (kept-some q x false f)
+    go false true f g r = none-passes p (keep q xs) (every-keep q (λ y. p y ≡ false) xs (u .0 g)) ∙ sym (kept-some q x false f)
     go false false f g r = r
 
 pub kept-or-none : {A : Type 0} (q : A → Bool) (o : Option A) → (if-kept q o ≡ None) ⊎ (if-kept q o ≡ o)
@@ -215,27 +191,18 @@ any-both P Q [] h m = absurd m
 any-both P Q (x ∷ xs) h (inl q) = inl (h .0, q)
 any-both P Q (x ∷ xs) h (inr m) = inr (any-both P Q xs (h .1) m)
 
-pub keep-member : {A : Type 0} (q : A → Bool) (x : A) (xs : List A) → Member x xs → q x ≡ true → Member x (keep q xs)
+pub keep-member : {A : Type 0} (q : A → Bool) (x : A) (xs : List A) → In x xs → q x ≡ true → In x (keep q xs)
 keep-member q x [] m e = absurd m
-keep-member q x (y ∷ ys) (inl s) e = go (q y) (subst (λ z. q z ≡ true) (sym s) e)
+keep-member q x (y ∷ ys) (inl s) e = go (q y) (subst (λ z. q z ≡ true) s e)
   where
-    go : (b : Bool) → b ≡ true → Member x (elim b [ true ↦ y ∷ keep q ys | false ↦ keep q ys ])
+    go : (b : Bool) → b ≡ true → In x (elim b [ true ↦ y ∷ keep q ys | false ↦ keep q ys ])
     go true f = inl s
     go false f = false-true f
 keep-member q x (y ∷ ys) (inr m) e = go (q y) (keep-member q x ys m e)
   where
-    go : (b : Bool) → Member x (keep q ys) → Member x (elim b [ true ↦ y ∷ keep q ys | false ↦ keep q ys ])
+    go : (b : Bool) → In x (keep q ys) → In x (elim b [ true ↦ y ∷ keep q ys | false ↦ keep q ys ])
     go true r = inr r
     go false r = r
-
--- those kept are there and pass
-pub every-kept : {A : Type 0} (q : A → Bool) (xs : List A) → Every (λ x. q x ≡ true) (keep q xs)
-every-kept q [] = tt
-every-kept q (x ∷ xs) = go (q x) refl (every-kept q xs)
-  where
-    go : (b : Bool) → q x ≡ b → Every (λ z. q z ≡ true) (keep q xs) → Every (λ z. q z ≡ true) (elim b [ true ↦ x ∷ keep q xs | false ↦ keep q xs ])
-    go true e r = (e, r)
-    go false e r = r
 
 pub keep-same : {A : Type 0} (q r : A → Bool) (xs : List A) → Every (λ x. q x ≡ r x) xs → keep q xs ≡ keep r xs
 keep-same q r [] h = refl
@@ -247,11 +214,11 @@ keep-same {A} q r (x ∷ xs) h = go (q x) (r x) (h .0) (keep-same q r xs (h .1))
     go false true e s = false-true e
     go false false e s = s
 
-pub unique-same : {A : Type 0} (p : A → Bool) (x y : A) (xs : List A) → Unique p xs → Member x xs → Member y xs → p x ≡ true → p y ≡ true → x ≡ y
+pub unique-same : {A : Type 0} (p : A → Bool) (x y : A) (xs : List A) → Unique p xs → In x xs → In y xs → p x ≡ true → p y ≡ true → x ≡ y
 unique-same p x y [] u m n e f = absurd m
-unique-same p x y (z ∷ zs) u (inl a) (inl b) e f = sym a ∙ b
-unique-same p x y (z ∷ zs) u (inl a) (inr n) e f = false-true (sym (every-at (λ w. p w ≡ false) y zs (u .0 (subst (λ w. p w ≡ true) (sym a) e)) n) ∙ f)
-unique-same p x y (z ∷ zs) u (inr m) (inl b) e f = false-true (sym (every-at (λ w. p w ≡ false) x zs (u .0 (subst (λ w. p w ≡ true) (sym b) f)) m) ∙ e)
+unique-same p x y (z ∷ zs) u (inl a) (inl b) e f = a ∙ sym b
+unique-same p x y (z ∷ zs) u (inl a) (inr n) e f = false-true (sym (every-in (λ w. p w ≡ false) zs (u .0 (subst (λ w. p w ≡ true) a e)) y n) ∙ f)
+unique-same p x y (z ∷ zs) u (inr m) (inl b) e f = false-true (sym (every-in (λ w. p w ≡ false) zs (u .0 (subst (λ w. p w ≡ true) b f)) x m) ∙ e)
 unique-same p x y (z ∷ zs) u (inr m) (inr n) e f = unique-same p x y zs (u .1) m n e f
 
 -- ---- maps of options
@@ -260,7 +227,7 @@ pub map-map : {A B C : Type 0} (f : B → C) (g : A → B) (o : Option A) → ma
 map-map f g None = refl
 map-map f g (Some x) = refl
 
--- ---- tests of a mapped list, and of a sorted one
+-- ---- tests of a mapped list
 
 pub any-mapped : {A B : Type 0} (p : B → Bool) (f : A → B) (xs : List A) → any p (map f xs) ≡ any (λ x. p (f x)) xs
 any-mapped p f [] = refl
@@ -281,30 +248,3 @@ first-none {A} p (x ∷ xs) e = go (p x) refl e (λ h. first-none p xs h)
     go : (b : Bool) → p x ≡ b → _≡_ {A = Option A} (elim b [ true ↦ Some x | false ↦ first p xs ]) None → (first p xs ≡ None → Every (λ y. p y ≡ false) xs) → Every (λ y. p y ≡ false) (x ∷ xs)
     go true f e r = some-none e
     go false f e r = (f, r e)
-
-module _ {A K : Type 0} {before : A → A → Bool} {key : A → K} (o : Order before key) (p : A → Bool) (by-key : (x y : A) → key x ≡ key y → p x ≡ p y) where
-  any-inserted : (x : A) (ys : List A) → any p (inserted before x ys) ≡ (p x || any p ys)
-  any-inserted x [] = refl
-  any-inserted x (y ∷ ys) = go (before x y) (before y x) refl refl (any-inserted x ys)
-    where
-      turn : (a b c : Bool) → (b || (a || c)) ≡ (a || (b || c))
-      turn true true c = refl
-      turn true false c = refl
-      turn false true c = refl
-      turn false false c = refl
-
-      twice : (a b c : Bool) → a ≡ b → (b || c) ≡ (a || (b || c))
-      twice true true c e = refl
-      twice true false c e = false-true (sym e)
-      twice false true c e = false-true e
-      twice false false c e = refl
-
-      go : (b c : Bool) → before x y ≡ b → before y x ≡ c → any p (inserted before x ys) ≡ (p x || any p ys)
-          → any p (elim b [ true ↦ x ∷ y ∷ ys | false ↦ elim c [ true ↦ y ∷ inserted before x ys | false ↦ y ∷ ys ] ]) ≡ (p x || (p y || any p ys))
-      go true c e f r = refl
-      go false true e f r = ap (λ z. p y || z) r ∙ turn (p x) (p y) (any p ys)
-      go false false e f r = twice (p x) (p y) (any p ys) (by-key x y (o .total x y e f))
-
-  pub any-sorted : (xs : List A) → any p (sorted before xs) ≡ any p xs
-  any-sorted [] = refl
-  any-sorted (x ∷ xs) = any-inserted x (sorted before xs) ∙ ap (λ z. p x || z) (any-sorted xs)

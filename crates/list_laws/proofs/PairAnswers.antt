@@ -20,9 +20,11 @@ use Rattle.list_laws.specs.Says.{pair-says, pair-said, cell-or-zeros, built-ad
 use Rattle.list_laws.specs.Answering.{Hold}
 use Rattle.list_laws.proofs.Orders.{Order, Rises, every-map, every-sorted, sorted-rises, first-sorted, false-true}
 use Rattle.list_laws.proofs.Linear.{Linear, numbers-linear, lists-linear, lex-linear, by-key, both}
-use Rattle.list_laws.proofs.Members.{Any, Member, any-map, every-all, every-at, every-member, map-member, first-found, first-none, Unique, if-kept, first-keep, kept-or-none, decided-shared, decided-append, decided-concat, decided-same, decided-map, map-or-else, map-decided, map-map, last-reverse, rises-unique, sorted-has, any-mapped, first-mapped, any-sorted}
+use Rattle.list_laws.proofs.Within.{In}
+use Rattle.list_laws.proofs.Rising.{any-sorted}
+use Rattle.list_laws.proofs.Members.{Any, any-map, every-all, every-member, map-member, first-found, first-none, Unique, if-kept, first-keep, kept-or-none, decided-shared, decided-append, decided-concat, decided-same, decided-map, map-or-else, map-decided, map-map, last-reverse, rises-unique, sorted-has, any-mapped, first-mapped}
 use Rattle.list_laws.proofs.Holding.{HoldNumbers, matched-map, hold-front, hold-back, built-first, built-any, built-decided, built-rises, record-gives}
-use Rattle.list_laws.proofs.Groups.{Apart, BothApart, groups-apart}
+use Rattle.list_laws.proofs.Sides.{BothApart, groups-apart}
 
 -- ---- glyph pairs
 
@@ -93,11 +95,11 @@ module _ (sets : List (List ℕ)) where
     both-hold r = has (q .0) (set-of sets (r .first)) && has (q .1) (set-of sets (r .second))
 
     -- rules of a group whose sets hold both glyphs have the same two sets
-    one-cell : (group : List Pair) → BothApart sets group → (a b : Pair) → Member a group → Member b group → both-hold a ≡ true → both-hold b ≡ true → cell-key a ≡ cell-key b
+    one-cell : (group : List Pair) → BothApart sets group → (a b : Pair) → In a group → In b group → both-hold a ≡ true → both-hold b ≡ true → cell-key a ≡ cell-key b
     one-cell group w a b m n e f =
         let x = both (has (q .0) (set-of sets (a .first))) (has (q .1) (set-of sets (a .second))) e in
         let y = both (has (q .0) (set-of sets (b .first))) (has (q .1) (set-of sets (b .second))) f in
-        ap₂ (λ u v. (set-of sets u, set-of sets v)) (w .0 a b m n (q .0) (x .0) (y .0)) (w .1 a b m n (q .1) (x .1) (y .1))
+        ap₂ (λ u v. (u, v)) (w .0 a b m n (q .0) (x .0) (y .0)) (w .1 a b m n (q .1) (x .1) (y .1))
 
     -- the cell that stands is by the last rule
     cell-last : (group : List Pair) → BothApart sets group → first both-hold (standing-cells sets group) ≡ last both-hold group

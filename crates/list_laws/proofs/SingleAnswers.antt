@@ -21,7 +21,8 @@ use Rattle.list_laws.specs.Answering.{Hold}
 use Rattle.list_laws.proofs.Orders.{Order, Rises, every-map, every-sorted, sorted-rises, first-sorted, false-true}
 use Rattle.list_laws.proofs.Linear.{Linear, numbers-linear, falling-linear, lex-linear, by-key}
 use Rattle.list_laws.proofs.Together.{together-is-equivalence}
-use Rattle.list_laws.proofs.Members.{Any, Member, any-map, any-both, every-at, every-all, every-member, every-map-list, map-member, first-found, Unique, if-kept, first-keep, kept-or-none, keep-member, every-keep, every-kept, keep-same, unique-same, decided-shared, decided-concat, decided-same, map-decided, map-map, rises-unique, sorted-has}
+use Rattle.list_laws.proofs.Within.{In, every-keep, every-kept, every-over, same-tests}
+use Rattle.list_laws.proofs.Members.{Any, any-map, any-both, every-all, every-member, map-member, first-found, Unique, if-kept, first-keep, kept-or-none, keep-member, keep-same, unique-same, decided-shared, decided-concat, decided-same, map-decided, map-map, rises-unique, sorted-has}
 use Rattle.list_laws.proofs.Holding.{HoldNumbers, matched-map, built-first, built-decided, built-rises, record-gives}
 
 abbrev has-glyph : {B : Type 0} → ℕ → SingleOf B → Bool
@@ -48,17 +49,17 @@ subtable-order = by-key (lex-linear falling-linear numbers-linear) subtable-key
 module _ (es : List BuiltSingle) (distinct : (g : ℕ) → Unique (has-glyph g) es) where
   -- the first entry of a subtable is there, and together with the glyph whose subtable it is
   abbrev Heads : BuiltSingle → BuiltSingle → Type 0
-  Heads a c = Member c es × (together es a c ≡ true) × (first-glyph (subtable-of es a) ≡ c .glyph)
+  Heads a c = In c es × (together es a c ≡ true) × (first-glyph (subtable-of es a) ≡ c .glyph)
 
-  head-of : (a : BuiltSingle) → Member a es → (c : BuiltSingle) × Heads a c
-  head-of a m = go (subtable-of es a) refl (keep-member (together es a) a es m (together-is-equivalence es .reflexive a)) (every-keep (λ c. Member c es) (together es a) es (every-member es)) (every-kept (together es a) es)
+  head-of : (a : BuiltSingle) → In a es → (c : BuiltSingle) × Heads a c
+  head-of a m = go (subtable-of es a) refl (keep-member (together es a) a es m (together-is-equivalence es .reflexive a)) (every-keep (together es a) (λ c. In c es) es (every-member es)) (every-kept (together es a) es)
     where
-      go : (s : List BuiltSingle) → subtable-of es a ≡ s → Member a s → Every (λ c. Member c es) s → Every (λ c. together es a c ≡ true) s → (c : BuiltSingle) × Heads a c
+      go : (s : List BuiltSingle) → subtable-of es a ≡ s → In a s → Every (λ c. In c es) s → Every (λ c. together es a c ≡ true) s → (c : BuiltSingle) × Heads a c
       go [] e k w v = absurd k
       go (c ∷ s) e k w v = (c, (w .0, v .0, ap first-glyph e))
 
   -- subtables with the same first glyph are one
-  same-subtable : (a b : BuiltSingle) → Member a es → Member b es → first-glyph (subtable-of es a) ≡ first-glyph (subtable-of es b) → subtable-of es a ≡ subtable-of es b
+  same-subtable : (a b : BuiltSingle) → In a es → In b es → first-glyph (subtable-of es a) ≡ first-glyph (subtable-of es b) → subtable-of es a ≡ subtable-of es b
   same-subtable a b m n e =
       let eq = together-is-equivalence es in let c = head-of a m in let d = head-of b n in
       let g : c .0 .glyph ≡ d .0 .glyph = sym (c .1 .2) ∙ (e ∙ d .1 .2) in
@@ -66,19 +67,15 @@ module _ (es : List BuiltSingle) (distinct : (g : ℕ) → Unique (has-glyph g) 
       let t : together es a b ≡ true = eq .transitive a (d .0) b (subst (λ x. together es a x ≡ true) s (c .1 .1)) (eq .symmetric b (d .0) (d .1 .1)) in
       keep-same (together es a) (together es b) es (every-all (λ x. swap x t (eq .symmetric a b t)) es)
     where
-      iff : (p q : Bool) → (p ≡ true → q ≡ true) → (q ≡ true → p ≡ true) → p ≡ q
-      iff true q f g = sym (f refl)
-      iff false true f g = g refl
-      iff false false f g = refl
 
       swap : (x : BuiltSingle) → together es a b ≡ true → together es b a ≡ true → together es a x ≡ together es b x
-      swap x t u = let eq = together-is-equivalence es in iff (together es a x) (together es b x) (λ h. eq .transitive b a x u h) (λ h. eq .transitive a b x t h)
+      swap x t u = let eq = together-is-equivalence es in same-tests (together es a x) (together es b x) (λ h. eq .transitive b a x u h) (λ h. eq .transitive a b x t h)
 
   abbrev IsSubtable : List BuiltSingle → Type 0
-  IsSubtable y = (a : BuiltSingle) × Member a es × (y ≡ subtable-of es a)
+  IsSubtable y = (a : BuiltSingle) × In a es × (y ≡ subtable-of es a)
 
   all-subtables : Every IsSubtable (single-subtables es)
-  all-subtables = every-sorted subtable-order IsSubtable (map (subtable-of es) es) (every-map-list IsSubtable (subtable-of es) es (every-map (λ a m. (a, m, refl)) es (every-member es)))
+  all-subtables = every-sorted subtable-order IsSubtable (map (subtable-of es) es) (every-over IsSubtable (subtable-of es) es (every-map (λ a m. (a, m, refl)) es (every-member es)))
 
   module _ (g : ℕ) where
     -- a subtable has the entry of the glyph, or none
@@ -97,7 +94,7 @@ module _ (es : List BuiltSingle) (distinct : (g : ℕ) → Unique (has-glyph g) 
         let there = sorted-has subtable-order (subtable-key (subtable-of es e)) (map (subtable-of es) es) (any-map (λ y s. ap subtable-key s) (map (subtable-of es) es) (map-member (subtable-of es) e es m)) in
         inl (any-map (λ y s. holds y m s) (single-subtables es) (any-both IsSubtable (λ y. subtable-key y ≡ subtable-key (subtable-of es e)) (single-subtables es) all-subtables there))
       where
-        holds : (y : List BuiltSingle) → Member e es → IsSubtable y × (subtable-key y ≡ subtable-key (subtable-of es e)) → first (has-glyph g) y ≡ Some e
+        holds : (y : List BuiltSingle) → In e es → IsSubtable y × (subtable-key y ≡ subtable-key (subtable-of es e)) → first (has-glyph g) y ≡ Some e
         holds y m s =
             let fg : first-glyph (subtable-of es (s .0 .0)) ≡ first-glyph (subtable-of es e) = sym (ap first-glyph (s .0 .2)) ∙ ap (λ k. k .1) (s .1) in
             ap (first (has-glyph g)) (s .0 .2 ∙ same-subtable (s .0 .0) e (s .0 .1) m fg)
