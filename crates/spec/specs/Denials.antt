@@ -75,6 +75,10 @@ passed d = record { word = d .word; place = d .place; part = d .part; depth = mi
 abbrev pub passed-by : ℕ → Denial → Denial
 passed-by n d = record { word = d .word; place = d .place; part = d .part; depth = min 65535 (d .depth + n) }
 
+-- a reading that ended at a byte position
+abbrev pub broken : ℕ → Denial
+broken k = arises broken-table k reader
+
 -- of two denials whose conditions hold the one of the lower word is told, then the one of the lower place
 abbrev pub wins : Denial → Denial → Bool
 wins d e = ltb (number (d .word)) (number (e .word)) || (eqb (number (d .word)) (number (e .word)) && leb (d .place) (e .place))
@@ -107,6 +111,11 @@ abbrev pub answer-number : Answer → ℕ
 answer-number taken = 0
 answer-number (entered n) = 0
 answer-number (denied d) = number (d .word)
+
+abbrev pub answer-text : Answer → List ℕ
+answer-text taken = codes "taken"
+answer-text (entered n) = codes "taken"
+answer-text (denied d) = text (d .word)
 
 abbrev pub is-denied : Answer → Bool
 is-denied taken = false

@@ -16,3 +16,11 @@ pub mod Stores
 pub mod StoreModels
 pub mod Runs
 pub mod Promise
+pub mod Cases
+pub mod Settings
+pub mod EntryExamples
+pub mod BuildExamples
+pub mod FormatExamples
+pub mod ReadingExamples
+pub mod StoreExamples
+pub mod RunExamples

@@ -7,7 +7,7 @@ use lib.ListN.{getD}
 use lib.IntN.{ℤ, pos}
 use Rattle.std.specs.declared.option.Option.{Option}
 use Rattle.std.specs.declared.option.Option.the-variants.{Some, None}
-use Rattle.spec.specs.Lists.{first, last, or-else, map-some, any, has}
+use Rattle.spec.specs.Lists.{first, last, decided, or-else, map-some, any, has}
 use Rattle.spec.specs.Entries.{Device, Delta, value-at, delta-at, no-device}
 use Rattle.spec.specs.Values.{Metric, ValueRecord, DeviceOrDeltas, empty, build-order}
 use Rattle.spec.specs.Rules.{RuleList, sections}
@@ -33,11 +33,6 @@ adjustment l size region (Some m) = elim (m .beside) [
 -- a record's metrics in the order of a build
 abbrev pub adjustments : {R : Type 0} → RuleList R → ℕ → ℕ → ValueRecord DeviceOrDeltas → List Adjustment
 adjustments l size region r = map (adjustment l size region) (build-order r)
-
--- the first of several that decides: a section, a group
-abbrev pub decided : {R A : Type 0} → (List R → Option A) → List (List R) → Option A
-decided f [] = None
-decided f (s ∷ ss) = or-else (f s) (decided f ss)
 
 -- ---- single: in a section the last rule for a glyph
 

@@ -56,6 +56,11 @@ abbrev pub last : {A : Type 0} → (A → Bool) → List A → Option A
 last p [] = None
 last p (x ∷ xs) = or-else (last p xs) (elim (p x) [ true ↦ Some x | false ↦ None ])
 
+-- the answer of the first of several that has one: sections, groups, subtables
+abbrev pub decided : {A B : Type 0} → (A → Option B) → List A → Option B
+decided f [] = None
+decided f (x ∷ xs) = or-else (f x) (decided f xs)
+
 -- the place of the first that passes the test, the first place being i
 abbrev pub place-of : {A : Type 0} → (A → Bool) → ℕ → List A → Option ℕ
 place-of p i [] = None

@@ -11,7 +11,7 @@ use Rattle.std.specs.declared.option.Option.the-variants.{Some, None}
 use Rattle.std.specs.declared.result.Result.{Result}
 use Rattle.std.specs.declared.result.Result.the-variants.{Ok, Err}
 use Rattle.spec.specs.Lists.{keep, count, sum-of, any, one-if, has, Every}
-use Rattle.spec.specs.Denials.{Denial, Answer, passed}
+use Rattle.spec.specs.Denials.{Denial, Answer, number, passed}
 use Rattle.spec.specs.Classes.{class-of}
 use Rattle.spec.specs.Rules.{Call, RuleList, Capacity, sections, opened, open-denial}
 use Rattle.spec.specs.Kinds.{SingleRule, PairRule, glyph-rules, single-rules, pair-rules}
@@ -105,6 +105,13 @@ pub data Outcome : Type 0 where
   not-built : Outcome
   not-written : Denial → Outcome
   written : ℕ → Outcome
+
+-- the number of an outcome: 0 for a lookup that was written or not built, else that of the denial
+abbrev pub outcome-number : Outcome → ℕ
+outcome-number (not-opened d) = number (d .word)
+outcome-number not-built = 0
+outcome-number (not-written d) = number (d .word)
+outcome-number (written n) = 0
 
 -- answers as the replay passes them up
 abbrev pub raised : Answer → Answer
