@@ -15,10 +15,11 @@ use Rattle.spec.specs.Fields.{field, and-then}
 use Rattle.spec.specs.Build.{BuiltPair, first-glyphs, pair-set}
 use Rattle.spec.specs.Bytes.{Table, end, head, own, size, Lies, coverage, children, pair-set-table, glyph-pair-table}
 use Rattle.spec.specs.Meaning.{covered, if-covered, pair-search, glyph-pair, pair}
+use Rattle.list_laws.proofs.Members.{every-keep, any-sorted}
 use Rattle.laws.specs.Conditions.{Of-format, Pairs-of}
 use Rattle.laws.specs.Descriptions.{records-read, pair-read}
 use Rattle.laws.proofs.Standing.{spread}
-use Rattle.laws.proofs.Finding.{Found, absent, there, found, has-rising, none-any, first-none, first-keep, every-keep}
+use Rattle.laws.proofs.Finding.{Found, absent, there, found, numbers-order, none-any, first-none, first-keep}
 use Rattle.laws.proofs.Covering.{coverage-reads}
 use Rattle.laws.proofs.PairSets.{pair-set-reads}
 use Rattle.laws.proofs.Lookups.{Leads, child-at}
@@ -26,7 +27,7 @@ use Rattle.laws.proofs.Lookups.{Leads, child-at}
 -- a first glyph that is not listed has no pair
 no-pair : (g h : ℕ) (es : List BuiltPair) → first (λ x. eqb x g) (first-glyphs es) ≡ None → first (λ e. eqb (e .first) g && eqb (e .second) h) es ≡ None
 no-pair g h es n =
-    let a : has g (map (λ e. e .first) es) ≡ false = sym (has-rising g (map (λ e. e .first) es)) ∙ none-any (λ x. eqb x g) (first-glyphs es) n in
+    let a : has g (map (λ e. e .first) es) ≡ false = sym (any-sorted numbers-order (λ x. eqb x g) (λ x y. ap (λ x. eqb x g)) (map (λ e. e .first) es)) ∙ none-any (λ x. eqb x g) (first-glyphs es) n in
     first-none (λ x. eqb x g) (λ e. eqb (e .second) h) (λ e. e .first) es a
 
 module _ (bs : List ℕ) (s at f1 f2 : ℕ) (q : ℕ × ℕ) (es : List BuiltPair) (fits : Pairs-of f1 f2 es) where

@@ -9,7 +9,6 @@ pub mod Devices
 pub mod Formats
 pub mod Records
 pub mod PairSets
-pub mod Sameness
 pub mod Singles
 pub mod Lookups
 pub mod GlyphPairs

@@ -6,7 +6,7 @@ use lib.Dec.{eqb}
 use lib.IntN.{ℤ, pos}
 use Rattle.std.specs.declared.option.Option.{Option}
 use Rattle.std.specs.declared.option.Option.the-variants.{Some, None}
-use Rattle.spec.specs.Lists.{first, or-else, map-some}
+use Rattle.spec.specs.Lists.{first, map-some}
 use Rattle.spec.specs.Entries.{value-at}
 use Rattle.spec.specs.Values.{Metric, ValueRecord, DeviceOrVariationIndex, device, variation-index, build-order}
 use Rattle.spec.specs.Build.{BuiltSingle, BuiltPair}
@@ -52,9 +52,3 @@ second-read size h es = map-some (records-read size) (first (λ e. eqb (e .secon
 
 abbrev pub pair-read : ℕ → ℕ × ℕ → List BuiltPair → Option (List (List ReadMetric))
 pair-read size q es = map-some (records-read size) (first (λ e. eqb (e .first) (q .0) && eqb (e .second) (q .1)) es)
-
--- ---- a lookup: the first of its subtables that says
-
-abbrev pub first-said : {O A : Type 0} → (O → Option A) → List O → Option A
-first-said says [] = None
-first-said says (o ∷ os) = or-else (says o) (first-said says os)

@@ -4,9 +4,9 @@ use lib.ListN.{length}
 use Prim.Native.Nat.{ℕ, _≤_}
 use Rattle.spec.specs.Bytes.{lookup-bytes, lookup-table, single-table}
 use Rattle.spec.specs.Meaning.{single}
+use Rattle.list_laws.proofs.Orders.{every-map}
 use Rattle.laws.specs.Conditions.{Singles-of}
 use Rattle.laws.specs.Descriptions.{single-read}
-use Rattle.laws.proofs.Finding.{every-weaker}
 use Rattle.laws.proofs.Lying.{lies}
 use Rattle.laws.proofs.Singles.{single-reads}
 use Rattle.laws.proofs.Lookups.{lookup-reads}
@@ -16,5 +16,5 @@ pub returns : need.returns
 returns c back size g flags mark subs fits =
     let bs = lookup-bytes 1 flags mark (map single-table subs) ++ back in
     lookup-reads bs single-table (single bs size g) (single-read size g) 1 flags mark subs
-    (every-weaker (λ es. (1 ≤ length es) × ((f : ℕ) × Singles-of f es)) _ (λ es h at l. single-reads bs size g at (h .1 .0) es (h .0) (h .1 .1) l) subs fits)
+    (every-map {P = λ es. (1 ≤ length es) × ((f : ℕ) × Singles-of f es)} (λ es h at l. single-reads bs size g at (h .1 .0) es (h .0) (h .1 .1) l) subs fits)
     (lies (lookup-table 1 flags mark (map single-table subs)) bs back 0 refl)
