@@ -12,3 +12,6 @@ pub mod PairSets
 pub mod Singles
 pub mod Lookups
 pub mod GlyphPairs
+pub mod Ranking
+pub mod Sides
+pub mod Matrix
