@@ -15,3 +15,5 @@ pub mod GlyphPairs
 pub mod Ranking
 pub mod Sides
 pub mod Matrix
+pub mod ClassPairs
+pub mod PairLookups
