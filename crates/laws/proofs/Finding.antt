@@ -1,17 +1,19 @@
 -- Tests over lists: where one first passes, what holds of all, what is kept.
-use mathlib.Core.Path.{_≡_, refl, ap, _∙_}
-use mathlib.Core.Bool.{Bool, true, false, _&&_, _||_}
+use mathlib.Core.Path.{_≡_, refl, sym, ap, ap₂, subst, _∙_}
+use mathlib.Core.Bool.{Bool, true, false, _&&_}
 use mathlib.Core.Logic.{inl, inr}
 use mathlib.Core.List.{List, [], _∷_, map}
 use Prim.Native.Nat.{ℕ, zero, suc, _+_, _<_}
 use native.Mathlib.Omega.{arith}
-use lib.Dec.{eqb, ltb}
+use lib.Dec.{ltb}
 use lib.ListN.{length, getD}
 use Rattle.std.specs.declared.option.Option.{Option}
 use Rattle.std.specs.declared.option.Option.the-variants.{Some, None}
-use Rattle.std.proofs.shelf.Tests.{cases-bool, and-parts, or-parts}
+use Rattle.std.proofs.shelf.Tests.{cases-bool, and-parts, or-parts, or-left, or-right}
 use Rattle.std.proofs.shelf.Ways.{tells}
-use Rattle.spec.specs.Lists.{first, place-of, any, all, has, keep, inserted, rising, Every}
+use Rattle.spec.specs.Lists.{first, place-of, any, all, keep, list-before, Every}
+use Rattle.list_laws.proofs.Orders.{Order}
+use Rattle.list_laws.proofs.Linear.{numbers-linear, lists-linear, by-key}
 
 -- a test passes nowhere in a list, or first at place j, where x stands; places are counted from i on
 pub data Found {A : Type 0} (p : A → Bool) (i : ℕ) (xs : List A) : Type 0 where
@@ -40,23 +42,40 @@ every-at P [] i d h l = absurd (omega arith)
 every-at P (x ∷ xs) zero d h l = h .0
 every-at P (x ∷ xs) (suc i) d h l = every-at P xs i d (h .1) (omega arith)
 
-pub every-weaker : {A : Type 0} (P Q : A → Type 0) → ((x : A) → P x → Q x) → (xs : List A) → Every P xs → Every Q xs
-every-weaker P Q f [] h = tt
-every-weaker P Q f (x ∷ xs) h = (f x (h .0), every-weaker P Q f xs (h .1))
+pub every-both : {A : Type 0} (P Q : A → Type 0) (xs : List A) → Every P xs → Every Q xs → Every (λ x. P x × Q x) xs
+every-both P Q [] h k = tt
+every-both P Q (x ∷ xs) h k = ((h .0, k .0), every-both P Q xs (h .1) (k .1))
 
--- rising leaves no number out and brings none in
-has-inserted : (g x : ℕ) (ys : List ℕ) → has g (inserted ltb x ys) ≡ (eqb x g || has g ys)
-has-inserted g x [] = refl
-has-inserted g x (y ∷ ys) = let r = has-inserted g x ys in grind (arith, tells)
+pub every-from-map : {A B : Type 0} (P : B → Type 0) (f : A → B) (xs : List A) → Every P (map f xs) → Every (λ x. P (f x)) xs
+every-from-map P f [] h = tt
+every-from-map P f (x ∷ xs) h = (h .0, every-from-map P f xs (h .1))
 
-pub has-rising : (g : ℕ) (xs : List ℕ) → has g (rising xs) ≡ has g xs
-has-rising g [] = refl
-has-rising g (x ∷ xs) = has-inserted g x (rising xs) ∙ ap (λ b. eqb x g || b) (has-rising g xs)
+pub every-first : {A : Type 0} (P : Option A → Type 0) (p : A → Bool) (xs : List A) → P None → Every (λ x. P (Some x)) xs → P (first p xs)
+every-first P p [] n h = n
+every-first P p (x ∷ xs) n h = elim (cases-bool (p x)) [
+  | inl t ↦ rw (t, first) (h .0)
+  | inr t ↦ rw (t, first) (every-first P p xs n (h .1))
+]
+
+-- ---- what is sorted
+
+pub numbers-order : Order ltb (λ x. x)
+numbers-order = by-key numbers-linear (λ x. x)
+
+pub lists-order : Order list-before (λ s. s)
+lists-order = by-key lists-linear (λ s. s)
+
+-- ---- the first that passes
 
 -- nothing passes
 pub none-any : {A : Type 0} (p : A → Bool) (xs : List A) → first p xs ≡ None → any p xs ≡ false
 none-any p [] h = refl
 none-any p (x ∷ xs) h = let r = none-any p xs in grind (arith, tells)
+
+-- two tests that agree
+pub first-same : {A : Type 0} (p q : A → Bool) (xs : List A) → Every (λ x. p x ≡ q x) xs → first p xs ≡ first q xs
+first-same p q [] h = refl
+first-same {A} p q (x ∷ xs) h = ap₂ {C = Option A} (λ b o. elim b [ true ↦ Some x | false ↦ o ]) (h .0) (first-same p q xs (h .1))
 
 pub first-none : {A B : Type 0} (p : B → Bool) (q : A → Bool) (f : A → B) (xs : List A) → any p (map f xs) ≡ false → first (λ x. p (f x) && q x) xs ≡ None
 first-none p q f [] h = refl
@@ -69,11 +88,3 @@ first-keep {A} p q (x ∷ xs) = let r = first-keep p q xs in elim (cases-bool (p
   | inl t ↦ rw (t, keep) (rw (t, first) (ap {B = Option A} (λ o. elim (q x) [ true ↦ Some x | false ↦ o ]) r))
   | inr t ↦ rw (t, keep) (rw (t, first) r)
 ]
-
-pub every-keep : {A : Type 0} (P : A → Type 0) (p : A → Bool) (xs : List A) → Every P xs → Every P (keep p xs)
-every-keep P p [] h = tt
-every-keep P p (x ∷ xs) h = by (p x) (every-keep P p xs (h .1))
-  where
-    by : (b : Bool) → Every P (keep p xs) → Every P (elim b [ true ↦ x ∷ keep p xs | false ↦ keep p xs ])
-    by true r = (h .0, r)
-    by false r = r

@@ -2,7 +2,7 @@
 use mathlib.Core.Path.{_≡_, refl, sym, ap, subst, _∙_}
 use mathlib.Core.Bool.{Bool, true, false}
 use mathlib.Core.List.{List, [], _∷_, _++_, map}
-use Prim.Native.Nat.{ℕ, zero, suc, _+_, _<_, _≤_}
+use Prim.Native.Nat.{ℕ, _+_, _<_}
 use native.Mathlib.Omega.{arith}
 use lib.Dec.{leb}
 use lib.ListN.{length, getD, drop, length-append}
@@ -20,11 +20,7 @@ use Rattle.list_laws.proofs.Holding.{matched-front, matched-back}
 use Rattle.laws.specs.Conditions.{Within, Fits-device, Fits-metric, Fits-record}
 use Rattle.laws.specs.Made.{Fits-default, Fits-values}
 use Rattle.laws.proofs.Making.{neither}
-
-pub every-getD : {A : Type 0} (P : A → Type 0) (xs : List A) (n : ℕ) (d : A) → Every P xs → n < length xs → P (getD xs n d)
-every-getD P [] n d h l = absurd (omega (arith, l))
-every-getD P (x ∷ xs) zero d h l = h .0
-every-getD P (x ∷ xs) (suc n) d h l = every-getD P xs n d (h .1) (omega (arith, l))
+use Rattle.laws.proofs.Finding.{every-at}
 
 -- no place: none passes
 all-known : {A : Type 0} (p : A → Bool) (i : ℕ) (xs : List A) → place-of p i xs ≡ None → Every (λ x. p x ≡ false) xs
@@ -70,7 +66,7 @@ module _ {R : Type 0} (l : RuleList R) (good : Every Fits-device (l .devices)) (
   beside-fine : (d : ℤ) (b : Option DeviceOrDeltas) (ids : List ℕ) → Within 32768 d → unknown l (Some (record { default = d; beside = b })) ≡ false → Own ids (delta-list (Some (record { default = d; beside = b })))
       → Fine (built-metric (l .devices) (Some (record { default = d; beside = b })) ids)
   beside-fine d None ids f e h = ((f, tt), tt)
-  beside-fine d (Some (device# n)) ids f e h = let k : n < length (l .devices) = grind (arith, tells) in ((f, every-getD Fits-device (l .devices) n no-device good k), tt)
+  beside-fine d (Some (device# n)) ids f e h = let k : n < length (l .devices) = grind (arith, tells) in ((f, every-at Fits-device (l .devices) n no-device good k), tt)
   beside-fine d (Some (deltas# n)) [] f e h = absurd h
   beside-fine d (Some (deltas# n)) (k ∷ ids) f e h = ((f, tt), h .0)
 

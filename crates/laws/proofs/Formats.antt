@@ -6,6 +6,7 @@ use Prim.Native.Nat.{ℕ, zero, suc, _+_, _*_, _/_, _%_, _^_, _≤_, _<_}
 use native.Mathlib.Omega.{arith}
 use native.Mathlib.Nat.{add-zero, mul-add}
 use lib.Dec.{eqb}
+use lib.Bits.{bitOr, or-step, or-comm, or-lt}
 use lib.ListN.{length}
 use Rattle.std.specs.declared.option.Option.{Option}
 use Rattle.std.specs.declared.option.Option.the-variants.{Some, None}
@@ -13,6 +14,8 @@ use Rattle.std.proofs.shelf.Tests.{eqb-false}
 use Rattle.std.proofs.shelf.Ways.{tells}
 use Rattle.spec.specs.Lists.{Every}
 use Rattle.spec.specs.Values.{Metric, ValueRecord, DeviceOrVariationIndex, writing-order, field-bit, device-bit, from-bits, empty, format, ones, encoded-size}
+use Rattle.spec.specs.Bytes.{union}
+use Rattle.list_laws.proofs.Orders.{every-map}
 use Rattle.laws.specs.Conditions.{Bits-in, Has-fields}
 
 -- ---- bits
@@ -102,3 +105,33 @@ size-split f h =
     let e : ones 16 f ≡ ones 4 f + ones 4 (f / 16) =
     ones-four 12 f ∙ ap (λ x. ones 4 f + x) (ones-four 8 (f / 16) ∙ ap (λ x. ones 4 (f / 16) + ones 8 x) z ∙ add-zero (ones 4 (f / 16))) in
     ap (λ n. 2 * n) e ∙ mul-add 2 (ones 4 f) (ones 4 (f / 16))
+
+-- ---- the union of value formats
+
+union-right : (d g a b : ℕ) → Bits-in d g b → Bits-in d g (bitOr a b)
+union-right zero g a b h = tt
+union-right (suc d) g a b h =
+    let e = or-step a b in
+    let m : g % 2 ≤ bitOr a b % 2 = let l = h .0 in omega arith in
+    let q : bitOr (a / 2) (b / 2) ≡ bitOr a b / 2 = omega arith in
+    (m, subst (Bits-in d (g / 2)) q (union-right d (g / 2) (a / 2) (b / 2) (h .1)))
+
+-- it has the bits of each
+pub union-has : (fs : List ℕ) → Every (λ f. Bits-in 8 f (union fs)) fs
+union-has [] = tt
+union-has (f ∷ fs) = (
+  subst (Bits-in 8 f) (or-comm (union fs) f) (union-right 8 f (union fs) f (bits-own 8 f)),
+  every-map {P = λ g. Bits-in 8 g (union fs)} {Q = λ g. Bits-in 8 g (bitOr f (union fs))} (λ g. union-right 8 g f (union fs)) fs (union-has fs),
+)
+
+pub union-small : {A : Type 0} (r : A → ValueRecord DeviceOrVariationIndex) (xs : List A) → union (map (λ x. format (r x)) xs) < 256
+union-small r [] = omega arith
+union-small r (x ∷ xs) = or-lt 8 (format (r x)) (union (map (λ x. format (r x)) xs)) (format-small (r x)) (union-small r xs)
+
+-- an empty record has no fields
+pub empty-in : (f : ℕ) → Has-fields f empty
+empty-in f = none 8 f
+  where
+    none : (d f : ℕ) → Bits-in d 0 f
+    none zero f = tt
+    none (suc d) f = (omega arith, none d (f / 2))

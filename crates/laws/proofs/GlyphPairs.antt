@@ -15,10 +15,12 @@ use Rattle.spec.specs.Fields.{field, and-then}
 use Rattle.spec.specs.Build.{BuiltPair, first-glyphs, pair-set}
 use Rattle.spec.specs.Bytes.{Table, end, head, own, size, Lies, coverage, children, pair-set-table, glyph-pair-table}
 use Rattle.spec.specs.Meaning.{covered, if-covered, pair-search, glyph-pair, pair}
+use Rattle.list_laws.proofs.Within.{every-keep}
+use Rattle.list_laws.proofs.Rising.{any-sorted}
 use Rattle.laws.specs.Conditions.{Of-format, Pairs-of}
 use Rattle.laws.specs.Descriptions.{records-read, pair-read}
 use Rattle.laws.proofs.Standing.{spread}
-use Rattle.laws.proofs.Finding.{Found, absent, there, found, has-rising, none-any, first-none, first-keep, every-keep}
+use Rattle.laws.proofs.Finding.{Found, absent, there, found, numbers-order, none-any, first-none, first-keep}
 use Rattle.laws.proofs.Covering.{coverage-reads}
 use Rattle.laws.proofs.PairSets.{pair-set-reads}
 use Rattle.laws.proofs.Lookups.{Leads, child-at}
@@ -26,7 +28,7 @@ use Rattle.laws.proofs.Lookups.{Leads, child-at}
 -- a first glyph that is not listed has no pair
 no-pair : (g h : ℕ) (es : List BuiltPair) → first (λ x. eqb x g) (first-glyphs es) ≡ None → first (λ e. eqb (e .first) g && eqb (e .second) h) es ≡ None
 no-pair g h es n =
-    let a : has g (map (λ e. e .first) es) ≡ false = sym (has-rising g (map (λ e. e .first) es)) ∙ none-any (λ x. eqb x g) (first-glyphs es) n in
+    let a : has g (map (λ e. e .first) es) ≡ false = sym (any-sorted numbers-order (λ x. eqb x g) (λ x y. ap (λ x. eqb x g)) (map (λ e. e .first) es)) ∙ none-any (λ x. eqb x g) (first-glyphs es) n in
     first-none (λ x. eqb x g) (λ e. eqb (e .second) h) (λ e. e .first) es a
 
 module _ (bs : List ℕ) (s at f1 f2 : ℕ) (q : ℕ × ℕ) (es : List BuiltPair) (fits : Pairs-of f1 f2 es) where
@@ -35,7 +37,7 @@ module _ (bs : List ℕ) (s at f1 f2 : ℕ) (q : ℕ × ℕ) (es : List BuiltPai
       → and-then (field bs k) (λ o. and-then (field bs (at + o)) (λ m. pair-search bs s (q .1) f1 f2 (at + o) (at + o + 2) m)) ≡ Ok (pair-read s q es)
   set-read k c =
       let ps = pair-set es (q .0) in
-      let r = pair-set-reads bs s (q .1) (at + c .offset) f1 f2 ps (every-keep (λ e. Of-format f1 (e .values1) × Of-format f2 (e .values2)) (λ e. eqb (e .first) (q .0)) es fits) (c .lies) in
+      let r = pair-set-reads bs s (q .1) (at + c .offset) f1 f2 ps (every-keep (λ e. eqb (e .first) (q .0)) (λ e. Of-format f1 (e .values1) × Of-format f2 (e .values2)) es fits) (c .lies) in
       rw (c .stands) (rw (c .lies .0 .0) (r ∙ ap (λ o. Ok (map-some (records-read s) o)) (first-keep (λ e. eqb (e .first) (q .0)) (λ e. eqb (e .second) (q .1)) es)))
 
   -- by where the first glyph is covered

@@ -9,7 +9,6 @@ pub mod Devices
 pub mod Formats
 pub mod Records
 pub mod PairSets
-pub mod Sameness
 pub mod Singles
 pub mod Lookups
 pub mod GlyphPairs
@@ -21,3 +20,9 @@ pub mod Agreeing
 pub mod SingleLookups
 pub mod WholeSingles
 pub mod WholeRuns
+pub mod Ranking
+pub mod Sides
+pub mod Matrix
+pub mod ClassPairs
+pub mod PairLookups
+pub mod PairFitting

@@ -11,11 +11,10 @@ use Rattle.std.specs.declared.result.Result.{Result}
 use Rattle.std.specs.declared.result.Result.the-variants.{Ok}
 use Rattle.std.proofs.shelf.Lists.{length-map}
 use Rattle.std.proofs.shelf.Tests.{eq-eqb}
-use Rattle.spec.specs.Lists.{Every, or-else}
+use Rattle.spec.specs.Lists.{Every, or-else, decided}
 use Rattle.spec.specs.Fields.{field, and-then}
 use Rattle.spec.specs.Bytes.{Table, head, own, size, Lies, children, mark-field, lookup-table}
 use Rattle.spec.specs.Meaning.{tried, lookup}
-use Rattle.laws.specs.Descriptions.{first-said}
 use Rattle.laws.specs.Parts.{Rest-lies}
 use Rattle.laws.proofs.Standing.{spread}
 
@@ -39,15 +38,15 @@ module _ {O A : Type 0} (bs : List ℕ) (table : O → Table) (try : ℕ → Res
   one-tried (Some x) b rest h = refl
 
   all-tried : (subs : List O) (k at : ℕ) (t : Table) → Every (λ o. (at : ℕ) → Lies bs at (table o) → try at ≡ Ok (says o)) subs → Rest-lies bs 0 at k (children (map table subs) t)
-      → tried bs try k (length subs) ≡ Ok (first-said says subs)
+      → tried bs try k (length subs) ≡ Ok (decided says subs)
   all-tried [] k at t reads h = refl
   all-tried (o ∷ os) k at t reads h =
       let others = all-tried os (k + 2) (at + size (table o)) t (reads .1) (h .0 .1, h .1 .2) in
       let one = reads .0 at (subst (λ n. Lies bs n (table o)) (zero-add at) (h .1 .0, h .1 .1)) in
-      rw (h .0 .0) (rw one (one-tried (says o) (first-said says os) (tried bs try (k + 2) (length os)) others))
+      rw (h .0 .0) (rw one (one-tried (says o) (decided says os) (tried bs try (k + 2) (length os)) others))
 
   pub lookup-reads : (type flags : ℕ) (mark : Option ℕ) (subs : List O) → Every (λ o. (at : ℕ) → Lies bs at (table o) → try at ≡ Ok (says o)) subs
-      → Lies bs 0 (lookup-table type flags mark (map table subs)) → lookup bs type try ≡ Ok (first-said says subs)
+      → Lies bs 0 (lookup-table type flags mark (map table subs)) → lookup bs type try ≡ Ok (decided says subs)
   lookup-reads type flags mark subs reads h =
       let o = own (lookup-table type flags mark (map table subs)) in
       let p = spread bs 0 1 (flags ∷ length (map table subs) ∷ []) (head o (children (map table subs) (mark-field mark))) (h .0 .1) in

@@ -15,13 +15,15 @@ use Rattle.std.specs.declared.result.Result.the-variants.{Ok}
 use Rattle.std.proofs.shelf.Tests.{cases-bool, eqb-true, eqb-false, ne-eqb}
 use Rattle.spec.specs.Lists.{Every}
 use Rattle.spec.specs.Fields.{field, and-then, signed}
-use Rattle.spec.specs.Values.{Metric, ValueRecord, DeviceOrVariationIndex, writing-order, field-bit, device-bit, ones, encoded-size}
-use Rattle.spec.specs.Bytes.{Table, size, default-of, device-of, offset-of, beside-table, defaults as defaults-table, devices as devices-table, values as values-table}
+use Rattle.spec.specs.Values.{Metric, ValueRecord, DeviceOrVariationIndex, empty, format, writing-order, field-bit, device-bit, ones, encoded-size}
+use Rattle.spec.specs.Bytes.{Table, size, union, default-of, device-of, offset-of, beside-table, defaults as defaults-table, devices as devices-table, values as values-table}
 use Rattle.spec.specs.Meaning.{nothing, beside, defaults, devices, values, two-records}
-use Rattle.laws.specs.Conditions.{Fits-beside, Fits-metric, Fits-record, Has-fields, Of-format}
+use Rattle.list_laws.proofs.Orders.{every-map}
+use Rattle.laws.specs.Conditions.{Fits-beside, Fits-metric, Fits-record, Bits-in, Has-fields, Of-format}
 use Rattle.laws.specs.Descriptions.{beside-read, default-read, device-read, record-read}
 use Rattle.laws.specs.Parts.{Rest-lies}
-use Rattle.laws.proofs.Formats.{Bits-below, both-bits, zero-bit, own-format, size-split}
+use Rattle.laws.proofs.Finding.{every-from-map, every-both}
+use Rattle.laws.proofs.Formats.{Bits-below, both-bits, zero-bit, own-format, size-split, union-has, union-small, empty-in}
 use Rattle.laws.proofs.Packing.{back16}
 use Rattle.laws.proofs.Devices.{beside-reads}
 
@@ -132,25 +134,35 @@ module _ (bs : List ℕ) (base s : ℕ) where
       let b = devices-read ms (f / 16) (k + 2 * ones 4 f) at t fits (bits .1) z (a .1) in
       (rw (a .0) (rw (b .0)), b .1)
 
--- a record in a value format of known bits, and the rest of the table right behind it
-pub record-then : (bs : List ℕ) (base s : ℕ) (r : ValueRecord DeviceOrVariationIndex) (f k at : ℕ) (t : Table) → f < 256 → Fits-record r → Has-fields f r → 0 < at → Rest-lies bs base at k (values-table f r t)
-    → (values bs s base k f ≡ Ok (record-read s r)) × Behind bs base (k + encoded-size f) t
-record-then bs base s r f k at t small fits has z h =
-    let a = record-reads bs base s r f k at t fits has z h in
-    (a .0, moved (k + 2 * ones 4 f + 2 * ones 4 (f / 16)) (k + encoded-size f) (omega (arith, size-split f small)) (a .1))
+-- a record fits into a value format of eight bits
+abbrev pub Fits-in : ℕ → ValueRecord DeviceOrVariationIndex → Type 0
+Fits-in f r = (f < 256) × Fits-record r × Has-fields f r
+
+pub own-fits : (f : ℕ) (r : ValueRecord DeviceOrVariationIndex) → Of-format f r → Fits-in f r
+own-fits f r h = let o = own-format f r (h .0) in (o .0, h .1, o .1)
+
+-- records in the union of their formats
+pub union-fits : {A : Type 0} (r : A → ValueRecord DeviceOrVariationIndex) (xs : List A) → Every (λ x. Fits-record (r x)) xs → Every (λ x. Fits-in (union (map (λ x. format (r x)) xs)) (r x)) xs
+union-fits r xs h =
+    let f = union (map (λ x. format (r x)) xs) in
+    let has = every-from-map (λ g. Bits-in 8 g f) (λ x. format (r x)) xs (union-has (map (λ x. format (r x)) xs)) in
+    every-map (λ x p. (union-small r xs, p .0, p .1)) xs (every-both (λ x. Fits-record (r x)) (λ x. Has-fields f (r x)) xs h has)
+
+pub empty-fits : (f : ℕ) → f < 256 → Fits-in f empty
+empty-fits f l = (l, (tt, (tt, (tt, (tt, tt)))), empty-in f)
 
 module _ (bs : List ℕ) (base s : ℕ) where
-  -- a record of the format that is written
-  pub own-record : (r : ValueRecord DeviceOrVariationIndex) (f k at : ℕ) (t : Table) → Of-format f r → 0 < at → Rest-lies bs base at k (values-table f r t)
+  -- a record, and the rest of the table right behind it
+  pub record-then : (r : ValueRecord DeviceOrVariationIndex) (f k at : ℕ) (t : Table) → Fits-in f r → 0 < at → Rest-lies bs base at k (values-table f r t)
       → (values bs s base k f ≡ Ok (record-read s r)) × Behind bs base (k + encoded-size f) t
-  own-record r f k at t fits z h =
-      let o = own-format f r (fits .0) in
-      record-then bs base s r f k at t (o .0) (fits .1) (o .1) z h
+  record-then r f k at t fits z h =
+      let a = record-reads bs base s r f k at t (fits .1) (fits .2) z h in
+      (a .0, moved (k + 2 * ones 4 f + 2 * ones 4 (f / 16)) (k + encoded-size f) (omega (arith, size-split f (fits .0))) (a .1))
 
   -- two records, one behind the other
-  pub own-records : (r q : ValueRecord DeviceOrVariationIndex) (f1 f2 k at : ℕ) (t : Table) → Of-format f1 r → Of-format f2 q → 0 < at → Rest-lies bs base at k (values-table f1 r (values-table f2 q t))
+  pub records-then : (r q : ValueRecord DeviceOrVariationIndex) (f1 f2 k at : ℕ) (t : Table) → Fits-in f1 r → Fits-in f2 q → 0 < at → Rest-lies bs base at k (values-table f1 r (values-table f2 q t))
       → (two-records bs s base k f1 f2 ≡ Ok (Some (record-read s r ∷ record-read s q ∷ []))) × Behind bs base (k + encoded-size f1 + encoded-size f2) t
-  own-records r q f1 f2 k at t fits more z h =
-      let a = own-record r f1 k at (values-table f2 q t) fits z h in
-      let b = own-record q f2 (k + encoded-size f1) (a .1 .next) t more (a .1 .later) (a .1 .rest) in
+  records-then r q f1 f2 k at t fits more z h =
+      let a = record-then r f1 k at (values-table f2 q t) fits z h in
+      let b = record-then q f2 (k + encoded-size f1) (a .1 .next) t more (a .1 .later) (a .1 .rest) in
       (rw (a .0) (rw (b .0)), b .1)

@@ -27,6 +27,7 @@ use Rattle.list_laws.proofs.Holding.{built-every}
 use Rattle.list_laws.proofs.SingleAnswers.{rule-order, subtable-order}
 use Rattle.laws.specs.Conditions.{Singles-of, Fits-record}
 use Rattle.laws.specs.Made.{Made, Fits-rule}
+use Rattle.laws.proofs.Finding.{every-both}
 use Rattle.laws.proofs.Fitting.{Good, Own, record-good, known-metrics}
 
 -- glyphs that are together have one value format
@@ -53,10 +54,6 @@ not-empty : {A : Type 0} (x : A) (xs : List A) → In x xs → 1 ≤ length xs
 not-empty x [] m = absurd m
 not-empty x (y ∷ xs) m = omega arith
 
-every-both : {A : Type 0} (P Q : A → Type 0) (xs : List A) → Every P xs → Every Q xs → Every (λ x. P x × Q x) xs
-every-both P Q [] h k = tt
-every-both P Q (x ∷ xs) h k = ((h .0, k .0), every-both P Q xs (h .1) (k .1))
-
 subtable-fits : (P : ℕ → Type 0) (es : List BuiltSingle) → Every (Entry P) es → (a : BuiltSingle) → In a es → Fit P (subtable-of es a)
 subtable-fits P es h a m =
     let kept = every-keep (together es a) (Entry P) es h in
@@ -66,7 +63,7 @@ subtable-fits P es h a m =
       kept,
     )
 
-every-concat : {A : Type 0} (P : A → Type 0) (xss : List (List A)) → Every (Every P) xss → Every P (concat xss)
+pub every-concat : {A : Type 0} (P : A → Type 0) (xss : List (List A)) → Every (Every P) xss → Every P (concat xss)
 every-concat P [] h = tt
 every-concat P (xs ∷ xss) h = every-append P xs (concat xss) (h .0) (every-concat P xss (h .1))
 

@@ -18,15 +18,16 @@ use Rattle.spec.specs.Values.{ValueRecord, DeviceOrVariationIndex, format, enco
 use Rattle.spec.specs.Build.{BuiltSingle}
 use Rattle.spec.specs.Bytes.{Table, end, head, own, size, Lies, coverage, values as values-table, single-values, single-table}
 use Rattle.spec.specs.Meaning.{covered, if-covered, values, one-record, single, single-2}
+use Rattle.list_laws.proofs.Orders.{every-map}
 use Rattle.laws.specs.Conditions.{Of-format, Singles-of}
 use Rattle.laws.specs.Descriptions.{record-read, single-read}
 use Rattle.laws.specs.Parts.{Rest-lies}
 use Rattle.laws.proofs.Standing.{spread}
-use Rattle.laws.proofs.Finding.{Found, absent, there, found, place-map, all-every, every-at, every-weaker}
+use Rattle.laws.proofs.Finding.{Found, absent, there, found, place-map, all-every, every-at}
 use Rattle.laws.proofs.Covering.{coverage-reads}
 use Rattle.laws.proofs.Formats.{no-fields}
-use Rattle.laws.proofs.Records.{own-record}
-use Rattle.laws.proofs.Sameness.{record-exact}
+use Rattle.laws.proofs.Records.{own-fits, record-then}
+use Rattle.list_laws.proofs.Sames.{record-same}
 
 -- ---- the records of one table
 
@@ -35,11 +36,11 @@ rows-read : (bs : List ℕ) (base s f : ℕ) (es : List BuiltSingle) (k at i : �
     → values bs s base (k + i * encoded-size f) f ≡ Ok (record-read s (getD es i d .values))
 rows-read bs base s f [] k at i d fits z h l = absurd (omega arith)
 rows-read bs base s f (e ∷ es) k at zero d fits z h l =
-    let v = own-record bs base s (e .values) f k at (single-values f es) (fits .0) z h in
+    let v = record-then bs base s (e .values) f k at (single-values f es) (own-fits f (e .values) (fits .0)) z h in
     let q : k ≡ k + 0 * encoded-size f = omega arith in
     subst (λ n. values bs s base n f ≡ Ok (record-read s (e .values))) q (v .0)
 rows-read bs base s f (e ∷ es) k at (suc i) d fits z h l =
-    let v = own-record bs base s (e .values) f k at (single-values f es) (fits .0) z h in
+    let v = record-then bs base s (e .values) f k at (single-values f es) (own-fits f (e .values) (fits .0)) z h in
     let q : k + encoded-size f + i * encoded-size f ≡ k + suc i * encoded-size f = omega (arith, suc-mul i (encoded-size f)) in
     let r = rows-read bs base s f es (k + encoded-size f) (v .1 .next) i d (fits .1) (v .1 .later) (v .1 .rest) (omega arith) in
     subst (λ n. values bs s base n f ≡ Ok (record-read s (getD es i d .values))) q r
@@ -51,8 +52,8 @@ all-same f e es fits h = elim (or-cases (eqb (format (e .values)) 0) (all (λ x.
       let z = eqb-true (format (e .values)) 0 q in
       let none : (x : BuiltSingle) → Of-format f (x .values) → x .values ≡ e .values =
       λ x o. no-fields (x .values) (o .0 ∙ sym (fits .0 .0) ∙ z) ∙ sym (no-fields (e .values) z) in
-      (refl, every-weaker (λ x. Of-format f (x .values)) (λ x. x .values ≡ e .values) none es (fits .1)))
-  | inr q ↦ (refl, every-weaker (λ x. same-record (x .values) (e .values) ≡ true) (λ x. x .values ≡ e .values) (λ x. record-exact (x .values) (e .values) .0) es (all-every (λ x. same-record (x .values) (e .values)) es q))
+      (refl, every-map {P = λ x. Of-format f (x .values)} {Q = λ x. x .values ≡ e .values} none es (fits .1)))
+  | inr q ↦ (refl, every-map {P = λ x. same-record (x .values) (e .values) ≡ true} {Q = λ x. x .values ≡ e .values} (λ x. record-same (x .values) (e .values)) es (all-every (λ x. same-record (x .values) (e .values)) es q))
 ]
 
 -- ---- the two formats
@@ -74,7 +75,7 @@ module _ (bs : List ℕ) (s g at : ℕ) where
       let o = own (one-table f r es) in
       let next = o + size (coverage (map (λ e. e .glyph) es)) in
       let p = spread bs at 1 (o ∷ f ∷ []) (head next (values-table f r end)) (h .0 .1) in
-      let v = own-record bs at s r f (at + 6) next end fits (omega arith) (p .1 .1, h .1 .2) in
+      let v = record-then bs at s r f (at + 6) next end (own-fits f r fits) (omega arith) (p .1 .1, h .1 .2) in
       rw (h .0 .0) (rw (p .0) (by (found (λ e. eqb (e .glyph) g) 0 es) (at + o) (h .1 .0, h .1 .1) (p .1 .0) (v .0)))
     where
       by : Found (λ e. eqb (e .glyph) g) 0 es → (k : ℕ) → Lies bs k (coverage (map (λ e. e .glyph) es)) → field bs (at + 4) ≡ Ok f → values bs s at (at + 6) f ≡ Ok (record-read s r)

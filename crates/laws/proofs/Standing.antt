@@ -5,7 +5,7 @@ use Prim.Native.Nat.{ℕ, zero, suc, _+_, _*_, _/_, _%_, _<_}
 use native.Mathlib.Omega.{arith}
 use lib.ListN.{length, getD, drop}
 use Rattle.std.specs.declared.result.Result.the-variants.{Ok}
-use Rattle.std.proofs.shelf.Lists.{length-drop, drop-drop, getD-drop}
+use Rattle.std.proofs.shelf.Lists.{length-drop, drop-drop, getD-drop, length-map, getD-map}
 use Rattle.std.proofs.shelf.Ways.{tells}
 use Rattle.spec.specs.Lists.{numbers}
 use Rattle.spec.specs.Fields.{big-endian, field, Stand}
@@ -47,12 +47,18 @@ stand-parts bs k (u ∷ us) ws h =
     let e : k + 2 + 2 * length us ≡ k + 2 * length (u ∷ us) = omega arith in
     ((h .0, r .0), subst (λ n. Stand bs n ws) e (r .1))
 
--- fields made from numbers in a row
+-- numbers in a row, and fields made from them
+pub length-numbers : (i n : ℕ) → length (numbers i n) ≡ n
+length-numbers i zero = refl
+length-numbers i (suc n) = ap suc (length-numbers (i + 1) n)
+
+pub getD-numbers : (i n j d : ℕ) → j < n → getD (numbers i n) j d ≡ i + j
+getD-numbers i zero j d l = absurd (omega arith)
+getD-numbers i (suc n) zero d l = omega arith
+getD-numbers i (suc n) (suc j) d l = let r = getD-numbers (i + 1) n j d (omega arith) in omega arith
+
 pub length-map-numbers : {A : Type 0} (f : ℕ → A) (i n : ℕ) → length (map f (numbers i n)) ≡ n
-length-map-numbers f i zero = refl
-length-map-numbers f i (suc n) = ap suc (length-map-numbers f (i + 1) n)
+length-map-numbers f i n = length-map (numbers i n) f ∙ length-numbers i n
 
 pub getD-map-numbers : {A : Type 0} (f : ℕ → A) (i n j : ℕ) (d : A) → j < n → getD (map f (numbers i n)) j d ≡ f (i + j)
-getD-map-numbers f i zero j d l = absurd (omega arith)
-getD-map-numbers f i (suc n) zero d l = ap f (omega arith)
-getD-map-numbers f i (suc n) (suc j) d l = getD-map-numbers f (i + 1) n j d (omega arith) ∙ ap f (omega arith)
+getD-map-numbers f i n j d l = getD-map f (numbers i n) j 0 d (omega (arith, length-numbers i n)) ∙ ap f (getD-numbers i n j 0 l)

@@ -26,17 +26,13 @@ use Rattle.list_laws.proofs.Within.{every-in}
 use Rattle.list_laws.proofs.Members.{first-found, map-map, map-decided, decided-same, some-none}
 use Rattle.list_laws.proofs.Holding.{matched-map, matched-weaken}
 use Rattle.list_laws.proofs.SingleAnswers.{singles-answer}
-use Rattle.laws.specs.Descriptions.{record-read, single-read, first-said}
+use Rattle.laws.specs.Descriptions.{record-read, single-read}
 use Rattle.laws.specs.Made.{Made}
 use Rattle.laws.specs.Whole.{Bytes-answer}
 use Rattle.laws.proofs.Fitting.{Ids}
 use Rattle.laws.proofs.SingleFitting.{Fit, singles-fit}
 use Rattle.laws.proofs.Agreeing.{record-agrees, agrees-map, decided-every}
 use Rattle.laws.proofs.SingleLookups.{single-lookup-reads}
-
-said-decided : {O A : Type 0} (says : O → Option A) (os : List O) → first-said says os ≡ decided says os
-said-decided says [] = refl
-said-decided says (o ∷ os) = ap (λ z. or-else (says o) z) (said-decided says os)
 
 -- the first entry of a glyph has what every entry has
 says-good : (P : ℕ → Type 0) (g : ℕ) (s : List BuiltSingle) → Fit P s → (r : ValueRecord DeviceOrVariationIndex) → single-says g s ≡ Some r → Every (Ids P) (build-order r)
@@ -55,9 +51,8 @@ read-said : (size g : ℕ) (flags : ℕ) (mark : Option ℕ) (P : ℕ → Type 0
 read-said size g flags mark P subs h =
     ap (λ bs. single-meaning bs size g) (sym (append-nil (lookup-bytes 1 flags mark (map single-table subs))))
     ∙ (single-lookup-reads [] size g flags mark subs (every-map (λ s k. (k .0, k .1)) subs h)
-    ∙ ap Ok (said-decided (single-read size g) subs
-    ∙ (decided-same (single-read size g) (λ s. map-some (λ r. record-read size r ∷ []) (single-says g s)) (λ s. sym (map-map (λ r. record-read size r ∷ []) (λ e. e .values) (first (λ e. eqb (e .glyph) g) s))) subs
-    ∙ sym (map-decided (λ r. record-read size r ∷ []) (single-says g) subs))))
+    ∙ ap Ok (decided-same (single-read size g) (λ s. map-some (λ r. record-read size r ∷ []) (single-says g s)) (λ s. sym (map-map (λ r. record-read size r ∷ []) (λ e. e .values) (first (λ e. eqb (e .glyph) g) s))) subs
+    ∙ sym (map-decided (λ r. record-read size r ∷ []) (single-says g) subs)))
 
 pub singles-whole : {S : Type 0} (m : Store S) → Laws m → Bytes-answer single-pos m
 singles-whole {S} m laws t l ids made held flags mark g size region =

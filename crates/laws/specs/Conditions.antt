@@ -1,7 +1,9 @@
 -- What the laws ask of glyphs and records, as the rules for what may be entered give it. Nothing else is asked: neither how many
 -- glyphs, values or records there are, nor how large an id is.
 use mathlib.Core.Path.{_≡_}
-use mathlib.Core.List.{List, [], _∷_}
+use mathlib.Core.Bool.{true}
+use mathlib.Core.Logic.{_⊎_}
+use mathlib.Core.List.{List, [], _∷_, map}
 use Prim.Native.Nat.{ℕ, zero, suc, _/_, _%_, _<_, _≤_}
 use lib.ListN.{length}
 use lib.IntN.{ℤ, pos, negsuc}
@@ -10,7 +12,8 @@ use Rattle.std.specs.declared.option.Option.the-variants.{Some, None}
 use Rattle.spec.specs.Lists.{Every}
 use Rattle.spec.specs.Entries.{Device}
 use Rattle.spec.specs.Values.{Metric, ValueRecord, DeviceOrVariationIndex, device, variation-index, writing-order, format}
-use Rattle.spec.specs.Build.{BuiltSingle, BuiltPair}
+use Rattle.spec.specs.Kinds.{disjoint}
+use Rattle.spec.specs.Build.{BuiltSingle, BuiltPair, Cell, PairSubtable, glyph-pairs, class-pairs}
 
 -- numbers that rise strictly, the first of them above b
 abbrev pub Above : ℕ → List ℕ → Type 0
@@ -62,3 +65,21 @@ Singles-of f es = Every (λ e. Of-format f (e .values)) es
 
 abbrev pub Pairs-of : ℕ → ℕ → List BuiltPair → Type 0
 Pairs-of f1 f2 es = Every (λ e. Of-format f1 (e .values1) × Of-format f2 (e .values2)) es
+
+-- two sets are the same, or share no glyph
+abbrev pub Apart : List ℕ → List ℕ → Type 0
+Apart s t = (s ≡ t) ⊎ (disjoint s t ≡ true)
+
+abbrev pub All-apart : List (List ℕ) → Type 0
+All-apart sets = Every (λ s. Every (Apart s) sets) sets
+
+-- the cells of a group: their records fit, and on each side different sets share no glyph
+pub record Group (es : List Cell) : Type 0 where
+  pub fits : Every (λ e. Fits-record (e .values1) × Fits-record (e .values2)) es
+  pub firsts : All-apart (map (λ e. e .first) es)
+  pub seconds : All-apart (map (λ e. e .second) es)
+
+-- a PairPos subtable of either format
+abbrev pub Fits-pairs : PairSubtable → Type 0
+Fits-pairs (glyph-pairs f1 f2 es) = Pairs-of f1 f2 es
+Fits-pairs (class-pairs es) = Group es

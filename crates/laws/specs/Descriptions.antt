@@ -6,11 +6,12 @@ use lib.Dec.{eqb}
 use lib.IntN.{ℤ, pos}
 use Rattle.std.specs.declared.option.Option.{Option}
 use Rattle.std.specs.declared.option.Option.the-variants.{Some, None}
-use Rattle.spec.specs.Lists.{first, or-else, map-some}
+use Rattle.spec.specs.Lists.{first, map-some}
 use Rattle.spec.specs.Entries.{value-at}
 use Rattle.spec.specs.Values.{Metric, ValueRecord, DeviceOrVariationIndex, device, variation-index, build-order}
-use Rattle.spec.specs.Build.{BuiltSingle, BuiltPair}
+use Rattle.spec.specs.Build.{BuiltSingle, BuiltPair, PairSubtable}
 use Rattle.spec.specs.Meaning.{ReadMetric, no-id, nothing}
+use Rattle.list_laws.specs.Says.{pair-says}
 
 -- ---- a record at a pixel size
 
@@ -53,8 +54,10 @@ second-read size h es = map-some (records-read size) (first (λ e. eqb (e .secon
 abbrev pub pair-read : ℕ → ℕ × ℕ → List BuiltPair → Option (List (List ReadMetric))
 pair-read size q es = map-some (records-read size) (first (λ e. eqb (e .first) (q .0) && eqb (e .second) (q .1)) es)
 
--- ---- a lookup: the first of its subtables that says
+-- in a PairPos subtable of either format: in one of classes those of the first cell whose sets hold both glyphs, empty ones without
+-- such a cell, and none if no first set holds the first glyph
+abbrev pub two-read : ℕ → ValueRecord DeviceOrVariationIndex × ValueRecord DeviceOrVariationIndex → List (List ReadMetric)
+two-read size r = record-read size (r .0) ∷ record-read size (r .1) ∷ []
 
-abbrev pub first-said : {O A : Type 0} → (O → Option A) → List O → Option A
-first-said says [] = None
-first-said says (o ∷ os) = or-else (says o) (first-said says os)
+abbrev pub pairs-read : ℕ → ℕ × ℕ → PairSubtable → Option (List (List ReadMetric))
+pairs-read size q sub = map-some (two-read size) (pair-says q sub)

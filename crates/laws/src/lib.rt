@@ -5,7 +5,7 @@ pub mod whole;
 ghost use Rattle.spec.specs.Build.{Together-is-equivalence};
 ghost use Rattle.laws.specs.Tables.{Fields-stand, Field-reads, Parts-stand, Offsets-lead};
 ghost use Rattle.laws.specs.Parts.{Device-reads, Variation-index-reads, Coverage-reads, Class-reads, Record-reads, Pair-set-reads};
-ghost use Rattle.laws.specs.Subtables.{Single-reads, Glyph-pairs-read, Lookup-reads, Single-lookup-reads};
+ghost use Rattle.laws.specs.Subtables.{Single-reads, Glyph-pairs-read, Class-pairs-read, Lookup-reads, Single-lookup-reads, Pair-lookup-reads};
 
 // Fields and tables stand where their bytes do.
 
@@ -85,6 +85,12 @@ pub fn glyph_pairs_read() -> u8
     0
 }
 
+pub fn class_pairs_read() -> u8
+    ensures { λ _. ⌜ Class-pairs-read ⌝ }
+{
+    0
+}
+
 // O is what a subtable is, A what it answers.
 pub fn lookup_reads<O, A>() -> u8
     ensures { λ _. ⌜ Lookup-reads O A ⌝ }
@@ -94,6 +100,12 @@ pub fn lookup_reads<O, A>() -> u8
 
 pub fn single_lookup_reads() -> u8
     ensures { λ _. ⌜ Single-lookup-reads ⌝ }
+{
+    0
+}
+
+pub fn pair_lookup_reads() -> u8
+    ensures { λ _. ⌜ Pair-lookup-reads ⌝ }
 {
     0
 }

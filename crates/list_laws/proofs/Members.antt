@@ -32,6 +32,16 @@ map-member f x [] m = absurd m
 map-member f x (y ∷ ys) (inl e) = inl (ap f (sym e))
 map-member f x (y ∷ ys) (inr m) = inr (map-member f x ys m)
 
+pub any-is : {A : Type 0} (x : A) (xs : List A) → Any (λ y. y ≡ x) xs → In x xs
+any-is x [] m = absurd m
+any-is x (y ∷ ys) (inl e) = inl (sym e)
+any-is x (y ∷ ys) (inr m) = inr (any-is x ys m)
+
+pub is-any : {A : Type 0} (x : A) (xs : List A) → In x xs → Any (λ y. y ≡ x) xs
+is-any x [] m = absurd m
+is-any x (y ∷ ys) (inl e) = inl (sym e)
+is-any x (y ∷ ys) (inr m) = inr (is-any x ys m)
+
 -- ---- the first that passes a test
 
 pub some-none : {A B : Type 0} {x : A} → _≡_ {A = Option A} (Some x) None → B

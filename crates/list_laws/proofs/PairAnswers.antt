@@ -28,16 +28,16 @@ use Rattle.list_laws.proofs.Sides.{BothApart, groups-apart}
 
 -- ---- glyph pairs
 
-abbrev pair-key : {B : Type 0} → PairOf ℕ B → ℕ × ℕ
+abbrev pub pair-key : {B : Type 0} → PairOf ℕ B → ℕ × ℕ
 pair-key r = (r .first, r .second)
 
 abbrev is-pair : {B : Type 0} → ℕ × ℕ → PairOf ℕ B → Bool
 is-pair q r = eqb (r .first) (q .0) && eqb (r .second) (q .1)
 
-abbrev rule-before : {B : Type 0} → PairOf ℕ B → PairOf ℕ B → Bool
+abbrev pub rule-before : {B : Type 0} → PairOf ℕ B → PairOf ℕ B → Bool
 rule-before a b = ltb (a .first) (b .first) || (eqb (a .first) (b .first) && ltb (a .second) (b .second))
 
-pair-order : {B : Type 0} → Order {A = PairOf ℕ B} rule-before pair-key
+pub pair-order : {B : Type 0} → Order {A = PairOf ℕ B} rule-before pair-key
 pair-order {B} = by-key {A = PairOf ℕ B} (lex-linear numbers-linear numbers-linear) pair-key
 
 pair-is : {B : Type 0} (q : ℕ × ℕ) (r : PairOf ℕ B) → is-pair q r ≡ true → pair-key r ≡ q
@@ -51,7 +51,7 @@ standing-first q rs = first-sorted pair-order (is-pair q) q (λ x y e. ap (λ k.
 format-order : Order formats-before (λ (f : ℕ × ℕ). f)
 format-order = by-key (lex-linear numbers-linear numbers-linear) (λ (f : ℕ × ℕ). f)
 
-abbrev of-format : ℕ × ℕ → BuiltPair → Bool
+abbrev pub of-format : ℕ × ℕ → BuiltPair → Bool
 of-format f e = eqb (format (e .values1)) (f .0) && eqb (format (e .values2)) (f .1)
 
 own-format : (e : BuiltPair) → of-format (formats e) e ≡ true
@@ -81,10 +81,10 @@ module _ (es : List BuiltPair) (q : ℕ × ℕ) (unique : Unique (is-pair q) es)
 -- ---- cells
 
 module _ (sets : List (List ℕ)) where
-  abbrev cell-key : Pair → List ℕ × List ℕ
+  abbrev pub cell-key : Pair → List ℕ × List ℕ
   cell-key r = (set-of sets (r .first), set-of sets (r .second))
 
-  cell-order : Order (cell-before sets) cell-key
+  pub cell-order : Order (cell-before sets) cell-key
   cell-order = by-key (lex-linear lists-linear lists-linear) cell-key
 
   module _ (q : ℕ × ℕ) where

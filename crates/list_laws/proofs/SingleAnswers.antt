@@ -67,7 +67,6 @@ module _ (es : List BuiltSingle) (distinct : (g : ℕ) → Unique (has-glyph g) 
       let t : together es a b ≡ true = eq .transitive a (d .0) b (subst (λ x. together es a x ≡ true) s (c .1 .1)) (eq .symmetric b (d .0) (d .1 .1)) in
       keep-same (together es a) (together es b) es (every-all (λ x. swap x t (eq .symmetric a b t)) es)
     where
-
       swap : (x : BuiltSingle) → together es a b ≡ true → together es b a ≡ true → together es a x ≡ together es b x
       swap x t u = let eq = together-is-equivalence es in same-tests (together es a x) (together es b x) (λ h. eq .transitive b a x u h) (λ h. eq .transitive a b x t h)
 

@@ -1,5 +1,5 @@
-use Rattle.laws.proofs.Sameness.{together-classes}
+use Rattle.list_laws.proofs.Together.{together-is-equivalence}
 use Rattle.laws.proofs.together_is_equivalence.Needs as need
 
 pub returns : need.returns
-returns c = together-classes
+returns c = together-is-equivalence
