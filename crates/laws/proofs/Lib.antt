@@ -26,3 +26,4 @@ pub mod Matrix
 pub mod ClassPairs
 pub mod PairLookups
 pub mod PairFitting
+pub mod WholePairs

@@ -56,7 +56,7 @@ sharing-apart s t f = go (disjoint s t) refl
 
 -- ---- what a pair subtable is to satisfy
 
-abbrev GoodPair : {K : Type 0} → (ℕ → Type 0) → PairOf K DeviceOrVariationIndex → Type 0
+abbrev pub GoodPair : {K : Type 0} → (ℕ → Type 0) → PairOf K DeviceOrVariationIndex → Type 0
 GoodPair P e = Good P (e .values1) × Good P (e .values2)
 
 abbrev Entries-good : (ℕ → Type 0) → PairSubtable → Type 0

@@ -33,3 +33,17 @@ pub fn single_runs_answer<S: VariationStore>() -> u8
 {
     0
 }
+
+// The bytes of a pair lookup answer every question as its rule list does.
+pub fn pair_bytes_answer<S: VariationStore>() -> u8
+    ensures { λ _. ⌜ Bytes-answer pair-pos (S·VariationStore .store) ⌝ }
+{
+    0
+}
+
+// So do those of any run of calls up to an accepted build, and ids keep their deltas.
+pub fn pair_runs_answer<S: VariationStore>() -> u8
+    ensures { λ _. ⌜ Runs-answer pair-pos (S·VariationStore .store) ⌝ }
+{
+    0
+}
