@@ -54,6 +54,7 @@ says-good P q (class-pairs es) h r e = go (any (λ x. has (q .0) (x .first)) es)
     cell : (o : Option Cell) → first (λ x. has (q .0) (x .first) && has (q .1) (x .second)) es ≡ o → Ids-two P (cell-or-zeros o)
     cell None u = ((tt, (tt, (tt, (tt, tt)))), (tt, (tt, (tt, (tt, tt)))))
     cell (Some x) u = first-good P (λ x. has (q .0) (x .first) && has (q .1) (x .second)) es (h .1) x u
+
     go : (b : Bool) → _≡_ {A = Option Two} (elim b [ true ↦ Some (cell-or-zeros (first (λ x. has (q .0) (x .first) && has (q .1) (x .second)) es)) | false ↦ None ]) (Some r) → Ids-two P r
     go true e = subst (Ids-two P) (same-some e) (cell (first (λ x. has (q .0) (x .first) && has (q .1) (x .second)) es) refl)
     go false e = some-none (sym e)
@@ -78,4 +79,4 @@ pairs-whole {S} m laws t l ids made held flags mark q size region =
     (subst (λ b. Agrees same (map-some said o) b) (sym (read-said size q flags mark (m .held t) (built pair-build l ids) fit))
     (agrees-map same said (two-read size) o
     (λ r e. let g = decided-every (FitPair (m .held t)) (Ids-two (m .held t)) (pair-says q) (λ s k v. says-good (m .held t) q s k v) (built pair-build l ids) fit r e in
-      (record-agrees m laws t size region (r .0) (g .0), (record-agrees m laws t size region (r .1) (g .1), tt)))))
+    (record-agrees m laws t size region (r .0) (g .0), (record-agrees m laws t size region (r .1) (g .1), tt)))))

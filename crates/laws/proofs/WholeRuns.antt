@@ -2,7 +2,11 @@
 use mathlib.Core.Path.{refl}
 use Rattle.spec.specs.Stores.{Store}
 use Rattle.spec.specs.Runs.{Kind}
-use Rattle.spec.specs.Rules.{opened}
+use mathlib.Core.List.{List}
+use Prim.Native.Nat.{ℕ}
+use Rattle.spec.specs.Rules.{RuleList, sections, opened}
+use Rattle.spec.specs.Build.{built-sections}
+use Rattle.spec.specs.Promise.{EachSection}
 use Rattle.laws.specs.Made.{Runs-make}
 use Rattle.laws.specs.Whole.{Bytes-answer, Runs-answer}
 use Rattle.laws.proofs.Making.{run-makes, opened-made}
@@ -12,6 +16,9 @@ module _ {R Q O A B S : Type 0} (kind : Kind R Q O A B) (m : Store S) where
   pub runs-make : Runs-make kind m
   runs-make capacity s t cs ans l us got f run = run-makes kind m capacity (opened-made (kind .rules)) f run
 
-  pub runs-answer : Bytes-answer kind m → Runs-answer kind m
-  runs-answer h capacity s t cs ans l us ids f run =
-      (h t l ids (run-makes kind m capacity (opened-made (kind .rules)) f run) (run-holds kind m capacity ids run refl), runs-keep kind m capacity opened s cs ans t)
+  pub runs-answer : Bytes-answer kind m → ((l : RuleList R) (ids : List ℕ) → EachSection (kind .stands (l .sets)) (sections l) (built-sections (kind .builds) l ids)) → Runs-answer kind m
+  runs-answer h stand capacity s t cs ans l us ids f run = record {
+    reads = h t l ids (run-makes kind m capacity (opened-made (kind .rules)) f run) (run-holds kind m capacity ids run refl);
+    stands = stand l ids;
+    keeps = runs-keep kind m capacity opened s cs ans t;
+  }
