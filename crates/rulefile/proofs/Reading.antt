@@ -68,7 +68,7 @@ hexadecimal limit (a ∷ []) h p q = absurd (omega arith)
 hexadecimal limit (a ∷ b ∷ bs) h p q =
     ap (digits-up-to 16 limit) (take-rest (a ∷ b ∷ bs) 2)
     ∙ ap (λ t. up-to limit (elim t [ true ↦ digits-value 16 bs | false ↦ digits-value 10 (a ∷ b ∷ bs) ]))
-      (let e : true ≡ (eqb a 48 && eqb b 120) = grind (arith, tells) in e)
+    (let e : true ≡ (eqb a 48 && eqb b 120) = grind (arith, tells) in e)
 
 -- after `-` the number is negative
 pub below-zero : (limit : ℕ) (word : List ℕ) → 1 ≤ length word → getD word 0 0 ≡ 45 → negative (unsigned-up-to (limit + 1) (take (length word - 1) (drop 1 word))) ≡ signed-up-to limit word
@@ -76,4 +76,4 @@ below-zero limit [] h p = absurd (omega arith)
 below-zero limit (b ∷ bs) h p =
     ap (λ l. negative (unsigned-up-to (limit + 1) l)) (take-rest (b ∷ bs) 1)
     ∙ ap (λ t. elim t [ true ↦ negative (unsigned-up-to (limit + 1) bs) | false ↦ positive (unsigned-up-to limit (b ∷ bs)) ])
-      (let e : true ≡ eqb b 45 = grind (arith, tells) in e)
+    (let e : true ≡ eqb b 45 = grind (arith, tells) in e)

@@ -2,7 +2,7 @@
 use mathlib.Core.Bool.{Bool, true, false, cond, _&&_, _||_}
 use mathlib.Core.List.{List, [], _∷_, _++_, map}
 use Prim.Native.Nat.{ℕ, _-_}
-use lib.Dec.{leb, eqb}
+use lib.Dec.{leb, ltb, eqb}
 use lib.ListN.{take, drop}
 use Rattle.std.specs.Of.Vec.{vec-items}
 use Rattle.std.specs.shelf.Text.{sameBytes}
@@ -16,6 +16,10 @@ part-of bytes p = take (p .end - p .start) (drop (p .start) bytes)
 -- two words of the same bytes
 abbrev pub same-word : List ℕ → List ℕ → Bool
 same-word a b = sameBytes a b
+
+-- a part that is not empty
+abbrev pub kept : ℕ → ℕ → List Part
+kept start end = elim (ltb start end) [ true ↦ record { start = start; end = end } ∷ [] | false ↦ [] ]
 
 -- a word that has come to its end, unless it is empty
 abbrev pub flush : List ℕ → List (List ℕ)

@@ -18,7 +18,11 @@ fn digit(base: u32, byte: u8) -> Option<u32>
     } else {
         99
     };
-    if (value as u32) < base { Some(value as u32) } else { None }
+    if (value as u32) < base {
+        Some(value as u32)
+    } else {
+        None
+    }
 }
 
 // What digits stand for, where that is at most `limit`.
