@@ -9,7 +9,7 @@ use borrow.Author.Needs.{needs}
 use borrow.Author.Tests.{eq-eqb}
 use lib.Dec.{eqb, ltb}
 use lib.ListN.{length, getD, take, drop}
-use Rattle.std.proofs.shelf.Lists.{same-lists, places, at-drop-more, at-drop-all, length-take, length-drop, take-all, take-more, getD-drop}
+use Rattle.std.proofs.shelf.Lists.{same-lists, places, at-drop-more, at-drop-all, length-take, length-drop, take-all, take-rest, take-more, getD-drop}
 use Rattle.std.proofs.shelf.Tests.{cases-lt}
 use Rattle.std.proofs.shelf.Ways.{tells}
 use Rattle.rulefile.specs.declared.words.Part.{Part}
@@ -124,3 +124,9 @@ comment-never line parts at h inv =
     ∙ sym (append-nil (words-at line (take at parts)))
     ∙ ap (λ l. words-at line (take at parts) ++ l) (sym (at-drop-all (λ l. before-comment (words-at line l)) parts at h))
     ∙ inv
+
+pub front-is : (word : List ℕ) (count end : ℕ) → end ≡ min count (length word) → take (end - 0) word ≡ take count word
+front-is word count end e = same-lists _ _ (search (needs, places)) (λ k d h. grind (arith, places))
+
+pub rest-is : (word : List ℕ) (count start : ℕ) → start ≡ min count (length word) → take (length word - start) (drop start word) ≡ drop count word
+rest-is word count start e = take-rest word start ∙ same-lists _ _ (search (needs, places)) (λ k d h. grind (arith, places))

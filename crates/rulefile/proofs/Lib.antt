@@ -1,2 +1,4 @@
 pub mod Reading
 pub mod Cutting
+pub mod Finding
+pub mod Recording

@@ -1,9 +1,9 @@
 -- How a line is cut into words, and what makes a name.
 use mathlib.Core.Bool.{Bool, true, false, cond, _&&_, _||_}
 use mathlib.Core.List.{List, [], _∷_, _++_, map}
-use Prim.Native.Nat.{ℕ, _-_}
+use Prim.Native.Nat.{ℕ, _+_, _-_}
 use lib.Dec.{leb, ltb, eqb}
-use lib.ListN.{take, drop}
+use lib.ListN.{length, take, drop}
 use Rattle.std.specs.Of.Vec.{vec-items}
 use Rattle.std.specs.shelf.Text.{sameBytes}
 use Rattle.rulefile.specs.declared.words.Part.{Part}
@@ -67,3 +67,16 @@ name-bytes (b ∷ bs) = name-byte b && name-bytes bs
 abbrev pub is-name : List ℕ → Bool
 is-name [] = false
 is-name (b ∷ bs) = letter b && name-bytes bs
+
+-- the place of the first of a list that passes a test, where the list's first has the place `at`; the list's end if none does
+abbrev pub first-from : {X : Type 0} → (X → Bool) → ℕ → List X → ℕ
+first-from test at [] = at
+first-from test at (x ∷ xs) = elim (test x) [ true ↦ at | false ↦ first-from test (at + 1) xs ]
+
+-- where a byte first stands in a word, or the word's length
+abbrev pub position : ℕ → List ℕ → ℕ
+position byte word = first-from (λ b. eqb b byte) 0 word
+
+-- a word taken apart at a byte: what stands before and after the first such byte, or another answer where there is none
+abbrev pub cut-at : {X : Type 0} → ℕ → List ℕ → (List ℕ → List ℕ → X) → X → X
+cut-at byte w f other = cond (ltb (position byte w) (length w)) (f (take (position byte w) w) (drop (position byte w + 1) w)) other

@@ -57,6 +57,16 @@ pub(crate) fn unsigned(word: &[u8], limit: u32) -> Option<u32>
     }
 }
 
+// A number of 16 bits.
+pub(crate) fn number16(word: &[u8]) -> Option<u16>
+    ensures { λ r. ⌜ r ≡ unsigned-up-to 65535 (now (word .entry)) ⌝ }
+{
+    match unsigned(word, 65535) {
+        Some(value) => Some(value as u16),
+        None => None,
+    }
+}
+
 // A number below zero, from its distance to zero.
 fn minus(size: u32) -> i32
     requires { ⌜ size ≤ 65536 ⌝ }

@@ -4,14 +4,14 @@ ghost use Prim.Native.Nat.{_<_, _≤_};
 ghost use Rattle.rulefile.specs.Words.{before-comment, is-name, kept, letter, name-byte, part-of, pieces, same-word, words-at, words-in, words-of};
 ghost use Rattle.std.specs.Of.Vec.{vec-items};
 ghost use Rattle.std.specs.Vec.{made};
-ghost use lib.ListN.{getD, length, take};
+ghost use lib.ListN.{drop, getD, length, take};
 ghost use mathlib.Core.List.{[], _++_};
 ghost use mathlib.Core.Path.{_≡_};
 use std::alloc::AllocError;
 use std::alloc::Global;
 
 // Where a part of a list begins and ends.
-#[derive(Clone, Copy, Debug, PartialEq)]
+#[derive(Clone, Copy)]
 pub struct Part {
     pub start: usize,
     pub end: usize,
@@ -31,6 +31,22 @@ pub(crate) fn part_of(bytes: &[u8], part: Part) -> &[u8]
     let end = part.end.min(bytes.len());
     let start = part.start.min(end);
     &bytes[start..end]
+}
+
+// The first `count` bytes of a word, or all of them.
+pub(crate) fn front(word: &[u8], count: usize) -> &[u8]
+    ensures { λ r. ⌜ now r ≡ take count (now (word .entry)) ⌝ }
+{
+    let end = count.min(word.len());
+    &word[0..end]
+}
+
+// What follows the first `count` bytes of a word.
+pub(crate) fn rest(word: &[u8], count: usize) -> &[u8]
+    ensures { λ r. ⌜ now r ≡ drop count (now (word .entry)) ⌝ }
+{
+    let start = count.min(word.len());
+    &word[start..word.len()]
 }
 
 // Whether two words are the same bytes.
