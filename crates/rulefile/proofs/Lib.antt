@@ -2,3 +2,4 @@ pub mod Reading
 pub mod Cutting
 pub mod Finding
 pub mod Recording
+pub mod Listing

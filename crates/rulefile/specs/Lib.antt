@@ -4,4 +4,5 @@ pub mod Names
 pub mod Numbers
 pub mod Outcomes
 pub mod Records
+pub mod Statements
 pub mod Words

@@ -6,6 +6,7 @@ mod names;
 mod numbers;
 mod records;
 mod rules;
+mod statements;
 mod words;
 
 pub use fault::Fault;

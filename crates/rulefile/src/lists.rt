@@ -52,6 +52,31 @@ pub(crate) impl Item for i8 as DeviceItem {
     }
 }
 
+// A delta from its region and its value.
+fn read_delta(region: &[u8], value: &[u8]) -> Result<Delta, Fault>
+    ensures { λ r. ⌜ r ≡ delta-from (now (region .entry)) (now (value .entry)) ⌝ }
+{
+    let Some(region) = number16(region) else {
+        return Err(Fault::Delta);
+    };
+    match signed16(value) {
+        Some(delta) => Ok(Delta { region, delta }),
+        None => Err(Fault::Delta),
+    }
+}
+
+pub(crate) impl Item for Delta as DeltaItem {
+    ghost reads = { delta-of };
+
+    fn read(word: &[u8]) -> Result<Delta, Fault> {
+        let at = position(word, b':');
+        if at >= word.len() {
+            return Err(Fault::Delta);
+        }
+        read_delta(front(word, at), rest(word, at + 1))
+    }
+}
+
 // The items of the words from `from` on.
 pub(crate) fn read_each<T: Item>(heap: Global, words: &Words, from: usize) -> Result<Vec<T>, Stop>
     ensures { λ r. ⌜ Answered vec-items r (each reads (drop from (words-in (now (words .entry))))) ⌝ }

@@ -1,0 +1,109 @@
+// Reads the statements that hold no list: rules, questions, and how a lookup is opened.
+ghost use Prim.Native.Nat.{_+_, _≤_};
+ghost use Rattle.rulefile.specs.Lists.{glyph-of};
+ghost use Rattle.rulefile.specs.Names.{named};
+ghost use Rattle.rulefile.specs.Statements.{lookup-kind-of, lookup-of, no-more, option-at, past, store-of};
+ghost use Rattle.rulefile.specs.Words.{words-in};
+ghost use lib.ListN.{getD};
+ghost use mathlib.Core.List.{[], map};
+ghost use mathlib.Core.Path.{_≡_};
+use crate::fault::Fault;
+use crate::names::read_set;
+use crate::numbers::number16;
+use crate::numbers::unsigned;
+use crate::records::read_record;
+use crate::records::read_records;
+use crate::rules::Entry;
+use crate::rules::Lookup;
+use crate::rules::LookupKind;
+use crate::rules::Question;
+use crate::rules::Statement;
+use crate::rules::StoreKind;
+use crate::words::Words;
+use crate::words::is_word;
+
+// The glyph at a place.
+fn read_glyph(words: &Words, at: usize) -> Result<u16, Fault>
+    ensures { λ r. ⌜ r ≡ glyph-of (getD (words-in (now (words .entry))) at []) ⌝ }
+{
+    match number16(words.word(at)) {
+        Some(glyph) => Ok(glyph),
+        None => Err(Fault::Glyph),
+    }
+}
+
+// The number after a key that may stand at a place.
+fn read_option(words: &Words, at: usize, key: &[u8], fault: Fault) -> Result<Option<u16>, Fault>
+    requires { ⌜ at ≤ 5 ⌝ }
+    ensures { λ r. ⌜ r ≡ option-at (words-in (now (words .entry))) at (now (key .entry)) fault ⌝ }
+{
+    if !is_word(words.word(at), key) {
+        return Ok(None);
+    }
+    match number16(words.word(at + 1)) {
+        Some(number) => Ok(Some(number)),
+        None => Err(fault),
+    }
+}
+
+// The place after a key and its number, if they are there.
+fn past_option(at: usize, option: Option<u16>) -> usize
+    requires { ⌜ at ≤ 5 ⌝ }
+    ensures { λ r. ⌜ r ≡ past at option ⌝ }
+{
+    match option {
+        Some(_) => at + 2,
+        None => at,
+    }
+}
+
+// The words may not go on past a place.
+pub(crate) fn read_end(words: &Words, at: usize) -> Result<(), Fault>
+    ensures { λ r. ⌜ r ≡ no-more (words-in (now (words .entry))) at ⌝ }
+{
+    if words.count() > at { Err(Fault::Extra) } else { Ok(()) }
+}
+
+fn read_lookup_kind(word: &[u8]) -> Result<LookupKind, Fault>
+    ensures { λ r. ⌜ r ≡ lookup-kind-of (now (word .entry)) ⌝ }
+{
+    if is_word(word, b"single") {
+        Ok(LookupKind::Single)
+    } else if is_word(word, b"pair") {
+        Ok(LookupKind::Pair)
+    } else {
+        Err(Fault::LookupKind)
+    }
+}
+
+// lookup KIND FLAGS [markset N]
+pub(crate) fn read_lookup(words: &Words) -> Result<Lookup, Fault>
+    ensures { λ r. ⌜ r ≡ lookup-of (words-in (now (words .entry))) ⌝ }
+{
+    let kind = read_lookup_kind(words.word(1))?;
+    let Some(flags) = unsigned(words.word(2), 0xffff_ffff) else {
+        return Err(Fault::Flags);
+    };
+    let mark_set = read_option(words, 3, b"markset", Fault::MarkSet)?;
+    read_end(words, past_option(3, mark_set))?;
+    Ok(Lookup { kind, flags, mark_set })
+}
+
+// store KIND
+pub(crate) fn read_store(words: &Words) -> Result<StoreKind, Fault>
+    ensures { λ r. ⌜ r ≡ store-of (words-in (now (words .entry))) ⌝ }
+{
+    read_end(words, 2)?;
+    let word = words.word(1);
+    if is_word(word, b"flat") {
+        Ok(StoreKind::Flat)
+    } else if is_word(word, b"sharing") {
+        Ok(StoreKind::Sharing)
+    } else if is_word(word, b"trim+flat") {
+        Ok(StoreKind::TrimFlat)
+    } else if is_word(word, b"trim+sharing") {
+        Ok(StoreKind::TrimSharing)
+    } else {
+        Err(Fault::StoreKind)
+    }
+}
