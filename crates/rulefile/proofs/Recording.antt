@@ -1,4 +1,4 @@
--- Reading records metric by metric.
+-- Reading a line word by word, and its records.
 use mathlib.Core.Bool.{true, false, _&&_}
 use mathlib.Core.List.{List, [], _∷_}
 use mathlib.Core.Logic.{⊎-elim}
@@ -17,10 +17,9 @@ use Rattle.std.specs.declared.result.Result.{Result}
 use Rattle.std.specs.declared.result.Result.the-variants.{Ok, Err}
 use Rattle.rulefile.specs.declared.fault.Fault.{Fault}
 use Rattle.rulefile.specs.declared.fault.Fault.the-variants as fault
-use Rattle.rulefile.specs.declared.rules.Record.{Record}
 use Rattle.rulefile.specs.Names.{Named}
-use Rattle.rulefile.specs.Outcomes.{then}
-use Rattle.rulefile.specs.Records.{added, metrics-from, no-metric, record-of, words-between}
+use Rattle.rulefile.specs.Outcomes.{then, word-by-word}
+use Rattle.rulefile.specs.Records.{metrics-from, no-metric, record-of, words-between}
 use Rattle.rulefile.specs.Words.{same-word}
 
 pub between-more : (ws : List (List ℕ)) (at to : ℕ) → at < to → at < length ws → words-between ws at to ≡ getD ws at [] ∷ words-between ws (at + 1) to
@@ -32,19 +31,19 @@ between-more ws at to h k =
 pub between-end : (ws : List (List ℕ)) (at to : ℕ) → min to (length ws) ≤ at → words-between ws at to ≡ []
 between-end ws at to h = nil-from-length (words-between ws at to) (simp (length-take, length-drop) (omega arith))
 
-module _ (es : List Named) (r : Record) (ws : List (List ℕ)) (at to : ℕ) {all : Result Record Fault} (inv : metrics-from es r (words-between ws at to) ≡ all) where
-  pub metric-more : (w : List ℕ) (next : Record) → at < to → at < length ws → w ≡ getD ws at [] → Ok next ≡ added es r w → metrics-from es next (words-between ws (at + 1) to) ≡ all
-  metric-more w next h k is e =
-      ap (λ o. then o (λ more. metrics-from es more (words-between ws (at + 1) to))) (e ∙ ap (added es r) is)
-      ∙ sym (ap (metrics-from es r) (between-more ws at to h k)) ∙ inv
+module _ {X : Type 0} (add : X → List ℕ → Result X Fault) (x : X) (ws : List (List ℕ)) (at to : ℕ) {all : Result X Fault} (inv : word-by-word add x (words-between ws at to) ≡ all) where
+  pub word-more : (w : List ℕ) (next : X) → at < to → at < length ws → w ≡ getD ws at [] → Ok next ≡ add x w → word-by-word add next (words-between ws (at + 1) to) ≡ all
+  word-more w next h k is e =
+      ap (λ o. then o (λ more. word-by-word add more (words-between ws (at + 1) to))) (e ∙ ap (add x) is)
+      ∙ sym (ap (word-by-word add x) (between-more ws at to h k)) ∙ inv
 
-  pub metric-wrong : (w : List ℕ) (f : Fault) → at < to → at < length ws → w ≡ getD ws at [] → Err f ≡ added es r w → Err f ≡ all
-  metric-wrong w f h k is e =
-      ap (λ o. then o (λ more. metrics-from es more (words-between ws (at + 1) to))) (e ∙ ap (added es r) is)
-      ∙ sym (ap (metrics-from es r) (between-more ws at to h k)) ∙ inv
+  pub word-wrong : (w : List ℕ) (f : Fault) → at < to → at < length ws → w ≡ getD ws at [] → Err f ≡ add x w → Err f ≡ all
+  word-wrong w f h k is e =
+      ap (λ o. then o (λ more. word-by-word add more (words-between ws (at + 1) to))) (e ∙ ap (add x) is)
+      ∙ sym (ap (word-by-word add x) (between-more ws at to h k)) ∙ inv
 
-  pub metrics-end : min to (length ws) ≤ at → Ok r ≡ all
-  metrics-end h = sym (ap (metrics-from es r) (between-end ws at to h)) ∙ inv
+  pub words-end : min to (length ws) ≤ at → Ok x ≡ all
+  words-end h = sym (ap (word-by-word add x) (between-end ws at to h)) ∙ inv
 
 pub record-none : (es : List Named) (ws : List (List ℕ)) (from to : ℕ) → min to (length ws) ≤ from → Err fault.NoRecord ≡ record-of es (words-between ws from to)
 record-none es ws from to h = ap (record-of es) (sym (between-end ws from to h))

@@ -1,5 +1,7 @@
 -- What comes of reading: a value, or what is wrong.
+use mathlib.Core.List.{List, [], _∷_}
 use mathlib.Core.Path.{_≡_}
+use Prim.Native.Nat.{ℕ}
 use Rattle.std.specs.declared.option.Option.{Option}
 use Rattle.std.specs.declared.option.Option.the-variants.{Some, None}
 use Rattle.std.specs.declared.result.Result.{Result}
@@ -21,6 +23,11 @@ mapped f (Some x) = Some (f x)
 abbrev pub then : {X Y : Type 0} → Result X Fault → (X → Result Y Fault) → Result Y Fault
 then (Ok x) f = f x
 then (Err e) f = Err e
+
+-- word by word, from what has been read so far
+abbrev pub word-by-word : {X : Type 0} → (X → List ℕ → Result X Fault) → X → List (List ℕ) → Result X Fault
+word-by-word add x [] = Ok x
+word-by-word add x (w ∷ ws) = then (add x w) (λ more. word-by-word add more ws)
 
 -- What a function answers that may run out of memory: the value that is due, or what is wrong; nothing is said where
 -- memory ran out.

@@ -20,7 +20,7 @@ use Rattle.rulefile.specs.declared.rules.Records.{Records}
 use Rattle.rulefile.specs.declared.rules.Reference.{Reference}
 use Rattle.rulefile.specs.Names.{Named, reference-of}
 use Rattle.rulefile.specs.Numbers.{signed-up-to}
-use Rattle.rulefile.specs.Outcomes.{wanted, then}
+use Rattle.rulefile.specs.Outcomes.{wanted, then, word-by-word}
 use Rattle.rulefile.specs.Words.{cut-at, first-from, position, same-word}
 
 -- the metric that a key names
@@ -75,8 +75,7 @@ words-between ws from to = take (to - from) (drop from ws)
 
 -- metric by metric
 abbrev pub metrics-from : List Named → Record → List (List ℕ) → Result Record Fault
-metrics-from es r [] = Ok r
-metrics-from es r (w ∷ ws) = then (added es r w) (λ more. metrics-from es more ws)
+metrics-from es r ws = word-by-word (added es) r ws
 
 -- a record is `-` alone, or one or more metrics
 abbrev pub record-of : List Named → List (List ℕ) → Result Record Fault

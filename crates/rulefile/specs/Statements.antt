@@ -5,6 +5,7 @@ use Prim.Native.Nat.{ℕ, _+_}
 use lib.Chars.{codes}
 use lib.Dec.{ltb}
 use lib.ListN.{length, getD}
+use Rattle.std.specs.Options.{valueOr}
 use Rattle.std.specs.declared.option.Option.{Option}
 use Rattle.std.specs.declared.option.Option.the-variants.{Some, None}
 use Rattle.std.specs.declared.result.Result.{Result}
@@ -65,3 +66,45 @@ store-of ws =
     (cond (same-word (word ws 1) (codes "sharing")) (Ok store.Sharing)
     (cond (same-word (word ws 1) (codes "trim+flat")) (Ok store.TrimFlat)
     (cond (same-word (word ws 1) (codes "trim+sharing")) (Ok store.TrimSharing) (Err fault.StoreKind)))))
+
+-- single GLYPH RECORD
+abbrev pub single-of : List Named → List (List ℕ) → Result Statement Fault
+single-of es ws =
+    then (glyph-of (word ws 1)) (λ g.
+    then (record-of es (words-between ws 2 (length ws))) (λ r.
+    Ok (statement.Single g r)))
+
+-- pair GLYPH GLYPH RECORD [/ RECORD]
+abbrev pub pair-of : List Named → List (List ℕ) → Result Statement Fault
+pair-of es ws =
+    then (glyph-of (word ws 1)) (λ a.
+    then (glyph-of (word ws 2)) (λ b.
+    then (records-of es ws 3) (λ r.
+    Ok (statement.Pair a b r))))
+
+-- class SET SET RECORD [/ RECORD]
+abbrev pub class-of : List Named → List (List ℕ) → Result Statement Fault
+class-of es ws =
+    then (set-reference-of es (word ws 1)) (λ a.
+    then (set-reference-of es (word ws 2)) (λ b.
+    then (records-of es ws 3) (λ r.
+    Ok (statement.Class a b r))))
+
+-- a question has one glyph in a single lookup, two in a pair lookup
+abbrev pub second-of : LookupKind → List (List ℕ) → Result (Option ℕ) Fault
+second-of kind.Single ws = Ok None
+second-of kind.Pair ws = then (glyph-of (word ws 2)) (λ g. Ok (Some g))
+
+abbrev pub past-second : Option ℕ → ℕ
+past-second None = 2
+past-second (Some g) = 3
+
+-- ask GLYPH [GLYPH] [ppem P] [region R]: without a size it is 0
+abbrev pub question-of : LookupKind → List (List ℕ) → Result Question Fault
+question-of k ws =
+    then (glyph-of (word ws 1)) (λ a.
+    then (second-of k ws) (λ b.
+    then (option-at ws (past-second b) (codes "ppem") fault.PixelSize) (λ p.
+    then (option-at ws (past (past-second b) p) (codes "region") fault.Region) (λ r.
+    then (no-more ws (past (past (past-second b) p) r)) (λ _.
+    Ok (record { first = a; second = b; ppem = valueOr p 0; region = r }))))))

@@ -2,7 +2,7 @@
 ghost use Prim.Native.Nat.{_+_, _≤_};
 ghost use Rattle.rulefile.specs.Lists.{glyph-of};
 ghost use Rattle.rulefile.specs.Names.{named};
-ghost use Rattle.rulefile.specs.Statements.{lookup-kind-of, lookup-of, no-more, option-at, past, store-of};
+ghost use Rattle.rulefile.specs.Statements.{class-of, lookup-kind-of, lookup-of, no-more, option-at, pair-of, past, past-second, question-of, second-of, single-of, store-of};
 ghost use Rattle.rulefile.specs.Words.{words-in};
 ghost use lib.ListN.{getD};
 ghost use mathlib.Core.List.{[], map};
@@ -106,4 +106,70 @@ pub(crate) fn read_store(words: &Words) -> Result<StoreKind, Fault>
     } else {
         Err(Fault::StoreKind)
     }
+}
+
+// single GLYPH RECORD
+pub(crate) fn read_single(entries: &[Entry], words: &Words) -> Result<Statement, Fault>
+    ensures { λ r. ⌜ r ≡ single-of (map named (now (entries .entry))) (words-in (now (words .entry))) ⌝ }
+{
+    let glyph = read_glyph(words, 1)?;
+    let record = read_record(entries, words, 2, words.count())?;
+    Ok(Statement::Single { glyph, record })
+}
+
+// pair GLYPH GLYPH RECORD [/ RECORD]
+pub(crate) fn read_pair(entries: &[Entry], words: &Words) -> Result<Statement, Fault>
+    ensures { λ r. ⌜ r ≡ pair-of (map named (now (entries .entry))) (words-in (now (words .entry))) ⌝ }
+{
+    let first = read_glyph(words, 1)?;
+    let second = read_glyph(words, 2)?;
+    let records = read_records(entries, words, 3)?;
+    Ok(Statement::Pair { first, second, records })
+}
+
+// class SET SET RECORD [/ RECORD]
+pub(crate) fn read_class(entries: &[Entry], words: &Words) -> Result<Statement, Fault>
+    ensures { λ r. ⌜ r ≡ class-of (map named (now (entries .entry))) (words-in (now (words .entry))) ⌝ }
+{
+    let first = read_set(entries, words.word(1))?;
+    let second = read_set(entries, words.word(2))?;
+    let records = read_records(entries, words, 3)?;
+    Ok(Statement::Class { first, second, records })
+}
+
+// The second glyph of a question, in a pair lookup.
+fn read_second(kind: LookupKind, words: &Words) -> Result<Option<u16>, Fault>
+    ensures { λ r. ⌜ r ≡ second-of kind (words-in (now (words .entry))) ⌝ }
+{
+    match kind {
+        LookupKind::Single => Ok(None),
+        LookupKind::Pair => {
+            let glyph = read_glyph(words, 2)?;
+            Ok(Some(glyph))
+        }
+    }
+}
+
+// The place after the glyphs of a question.
+fn past_glyphs(second: Option<u16>) -> usize
+    ensures { λ r. ⌜ r ≡ past-second second ⌝ }
+{
+    match second {
+        Some(_) => 3,
+        None => 2,
+    }
+}
+
+// ask GLYPH [GLYPH] [ppem P] [region R]
+pub(crate) fn read_question(kind: LookupKind, words: &Words) -> Result<Question, Fault>
+    ensures { λ r. ⌜ r ≡ question-of kind (words-in (now (words .entry))) ⌝ }
+{
+    let first = read_glyph(words, 1)?;
+    let second = read_second(kind, words)?;
+    let at = past_glyphs(second);
+    let ppem = read_option(words, at, b"ppem", Fault::PixelSize)?;
+    let then = past_option(at, ppem);
+    let region = read_option(words, then, b"region", Fault::Region)?;
+    read_end(words, past_option(then, region))?;
+    Ok(Question { first, second, ppem: ppem.unwrap_or(0), region })
 }
