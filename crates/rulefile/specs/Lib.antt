@@ -1,3 +1,4 @@
+pub mod Entries
 pub mod Keywords
 pub mod Lists
 pub mod Names
@@ -5,4 +6,5 @@ pub mod Numbers
 pub mod Outcomes
 pub mod Records
 pub mod Statements
+pub mod Storages
 pub mod Words

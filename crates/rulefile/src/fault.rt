@@ -103,3 +103,11 @@ pub(crate) impl<T: Drop> From<Refused<T>> for Stop as StopFromRefused {
         Stop::Memory
     }
 }
+
+pub(crate) impl From<Fault> for Stop as StopFromFault {
+    ghost converts = { λ f r. r ≡ Wrong f };
+
+    fn from(fault: Fault) -> Stop {
+        Stop::Wrong(fault)
+    }
+}

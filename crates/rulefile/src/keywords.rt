@@ -1,17 +1,12 @@
 // The words that a line may begin with.
 ghost use Rattle.rulefile.specs.Keywords.{keyword-of};
 ghost use mathlib.Core.Path.{_≡_};
+use crate::rules::EntryKind;
 use crate::words::is_word;
 
-// What kind of statement a line has.
+// Which rule or other statement after `lookup`, but for the entries.
 #[derive(Clone, Copy)]
-pub(crate) enum Keyword {
-    Storage,
-    Store,
-    Lookup,
-    Set,
-    Device,
-    Deltas,
+pub(crate) enum RuleKind {
     Single,
     Pair,
     Class,
@@ -20,6 +15,17 @@ pub(crate) enum Keyword {
     Ask,
 }
 
+// What kind of statement a line has.
+#[derive(Clone, Copy)]
+pub(crate) enum Keyword {
+    Storage,
+    Store,
+    Lookup,
+    Entry(EntryKind),
+    Rule(RuleKind),
+}
+
+// The statement that a line's first word stands for.
 pub(crate) fn keyword_of(word: &[u8]) -> Option<Keyword>
     ensures { λ r. ⌜ r ≡ keyword-of (now (word .entry)) ⌝ }
 {
@@ -30,23 +36,23 @@ pub(crate) fn keyword_of(word: &[u8]) -> Option<Keyword>
     } else if is_word(word, b"lookup") {
         Some(Keyword::Lookup)
     } else if is_word(word, b"set") {
-        Some(Keyword::Set)
+        Some(Keyword::Entry(EntryKind::Set))
     } else if is_word(word, b"device") {
-        Some(Keyword::Device)
+        Some(Keyword::Entry(EntryKind::Device))
     } else if is_word(word, b"deltas") {
-        Some(Keyword::Deltas)
+        Some(Keyword::Entry(EntryKind::Deltas))
     } else if is_word(word, b"single") {
-        Some(Keyword::Single)
+        Some(Keyword::Rule(RuleKind::Single))
     } else if is_word(word, b"pair") {
-        Some(Keyword::Pair)
+        Some(Keyword::Rule(RuleKind::Pair))
     } else if is_word(word, b"class") {
-        Some(Keyword::Class)
+        Some(Keyword::Rule(RuleKind::Class))
     } else if is_word(word, b"break") {
-        Some(Keyword::Break)
+        Some(Keyword::Rule(RuleKind::Break))
     } else if is_word(word, b"build") {
-        Some(Keyword::Build)
+        Some(Keyword::Rule(RuleKind::Build))
     } else if is_word(word, b"ask") {
-        Some(Keyword::Ask)
+        Some(Keyword::Rule(RuleKind::Ask))
     } else {
         None
     }

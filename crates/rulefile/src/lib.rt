@@ -1,4 +1,5 @@
 // Reads rule files: the text of a lookup's rules, one statement a line.
+mod entries;
 mod fault;
 mod keywords;
 mod lists;
@@ -7,6 +8,7 @@ mod numbers;
 mod records;
 mod rules;
 mod statements;
+mod storage;
 mod words;
 
 pub use fault::Fault;

@@ -144,7 +144,12 @@ fn is_dash(words: &Words, from: usize, to: usize) -> bool
 }
 
 // The record of the words from `from` up to `to`.
-pub(crate) fn read_record(entries: &[Entry], words: &Words, from: usize, to: usize) -> Result<Record, Fault>
+pub(crate) fn read_record(
+    entries: &[Entry],
+    words: &Words,
+    from: usize,
+    to: usize,
+) -> Result<Record, Fault>
     ensures { λ r. ⌜ r ≡ record-of (map named (now (entries .entry))) (words-between (words-in (now (words .entry))) from to) ⌝ }
 {
     let end = to.min(words.count());

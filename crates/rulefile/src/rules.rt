@@ -92,6 +92,19 @@ pub struct Lookup {
     pub mark_set: Option<u16>,
 }
 
+// How many places are brought for each table and each pool of elements.
+#[derive(Clone, Copy)]
+pub struct Storage {
+    pub sets: u32,
+    pub set_pool: u32,
+    pub devices: u32,
+    pub device_pool: u32,
+    pub deltas: u32,
+    pub delta_pool: u32,
+    pub rules: u32,
+    pub store: u32,
+}
+
 // How the store of variation deltas is made.
 #[derive(Clone, Copy)]
 pub enum StoreKind {

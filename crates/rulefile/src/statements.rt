@@ -61,7 +61,11 @@ fn past_option(at: usize, option: Option<u16>) -> usize
 pub(crate) fn read_end(words: &Words, at: usize) -> Result<(), Fault>
     ensures { λ r. ⌜ r ≡ no-more (words-in (now (words .entry))) at ⌝ }
 {
-    if words.count() > at { Err(Fault::Extra) } else { Ok(()) }
+    if words.count() > at {
+        Err(Fault::Extra)
+    } else {
+        Ok(())
+    }
 }
 
 fn read_lookup_kind(word: &[u8]) -> Result<LookupKind, Fault>
@@ -86,7 +90,11 @@ pub(crate) fn read_lookup(words: &Words) -> Result<Lookup, Fault>
     };
     let mark_set = read_option(words, 3, b"markset", Fault::MarkSet)?;
     read_end(words, past_option(3, mark_set))?;
-    Ok(Lookup { kind, flags, mark_set })
+    Ok(Lookup {
+        kind,
+        flags,
+        mark_set,
+    })
 }
 
 // store KIND
@@ -124,7 +132,11 @@ pub(crate) fn read_pair(entries: &[Entry], words: &Words) -> Result<Statement, F
     let first = read_glyph(words, 1)?;
     let second = read_glyph(words, 2)?;
     let records = read_records(entries, words, 3)?;
-    Ok(Statement::Pair { first, second, records })
+    Ok(Statement::Pair {
+        first,
+        second,
+        records,
+    })
 }
 
 // class SET SET RECORD [/ RECORD]
@@ -134,7 +146,11 @@ pub(crate) fn read_class(entries: &[Entry], words: &Words) -> Result<Statement, 
     let first = read_set(entries, words.word(1))?;
     let second = read_set(entries, words.word(2))?;
     let records = read_records(entries, words, 3)?;
-    Ok(Statement::Class { first, second, records })
+    Ok(Statement::Class {
+        first,
+        second,
+        records,
+    })
 }
 
 // The second glyph of a question, in a pair lookup.
@@ -171,5 +187,10 @@ pub(crate) fn read_question(kind: LookupKind, words: &Words) -> Result<Question,
     let then = past_option(at, ppem);
     let region = read_option(words, then, b"region", Fault::Region)?;
     read_end(words, past_option(then, region))?;
-    Ok(Question { first, second, ppem: ppem.unwrap_or(0), region })
+    Ok(Question {
+        first,
+        second,
+        ppem: ppem.unwrap_or(0),
+        region,
+    })
 }
