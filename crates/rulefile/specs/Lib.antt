@@ -6,5 +6,6 @@ pub mod Numbers
 pub mod Outcomes
 pub mod Records
 pub mod Statements
+pub mod Steps
 pub mod Storages
 pub mod Words

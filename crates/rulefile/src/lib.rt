@@ -5,6 +5,7 @@ mod keywords;
 mod lists;
 mod names;
 mod numbers;
+mod parser;
 mod records;
 mod rules;
 mod statements;
