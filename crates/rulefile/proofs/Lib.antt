@@ -3,3 +3,4 @@ pub mod Cutting
 pub mod Finding
 pub mod Recording
 pub mod Listing
+pub mod Lines

@@ -1,4 +1,5 @@
 pub mod Entries
+pub mod Files
 pub mod Keywords
 pub mod Lists
 pub mod Names

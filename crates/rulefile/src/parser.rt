@@ -1,4 +1,5 @@
 // Reads a rule file line by line, and keeps what the lines before have said.
+ghost use Rattle.rulefile.specs.Files.{nothing};
 ghost use Rattle.rulefile.specs.Names.{named};
 ghost use Rattle.rulefile.specs.Outcomes.{Answered};
 ghost use Rattle.rulefile.specs.Steps.{and-names, and-says, before-lookup, enter-step, entry-here, line-step, lookup-step, may-enter, name-given, rule-here, rule-of, rule-step, state-of, statement-step, storage-step, store-step};
@@ -93,6 +94,19 @@ fn read_rule(
 }
 
 impl Parser {
+    // Before the first line.
+    pub(crate) fn new(heap: Global) -> Parser
+        ensures { λ r. ⌜ state-of r ≡ nothing ⌝ }
+    {
+        Parser {
+            storage: None,
+            store: None,
+            lookup: None,
+            entries: Vec::new(heap),
+            statements: Vec::new(heap),
+        }
+    }
+
     fn take_storage(&mut self, words: &Words) -> Result<(), Stop>
         ensures { λ r. ⌜ Answered (λ _. state-of (now (self .exit))) r (storage-step (state-of (now (self .entry))) (words-in (now (words .entry)))) ⌝ }
     {

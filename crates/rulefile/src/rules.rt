@@ -1,4 +1,5 @@
 // What a rule file says, as types.
+use crate::fault::Fault;
 
 // What a name stands for.
 #[derive(Clone, Copy)]
@@ -157,4 +158,28 @@ pub enum Statement {
 pub struct Line {
     pub number: usize,
     pub statement: Statement,
+}
+
+// A line that is wrong, counted from 1, and what is wrong with it.
+#[derive(Clone, Copy)]
+pub struct Mistake {
+    pub line: usize,
+    pub fault: Fault,
+}
+
+// Why a file is not read.
+#[derive(Clone, Copy)]
+pub enum Error {
+    Memory,
+    Wrong(Mistake),
+}
+
+// What a rule file says.
+#[derive(Drop)]
+pub struct RuleFile {
+    pub storage: Storage,
+    pub store: StoreKind,
+    pub lookup: Lookup,
+    pub entries: Vec<Entry>,
+    pub statements: Vec<Line>,
 }

@@ -115,3 +115,10 @@ pub(crate) fn read_storage(words: &Words) -> Result<Storage, Fault>
         Err(fault) => Err(fault),
     }
 }
+
+// What is brought where no `storage` says otherwise.
+pub(crate) fn default_storage() -> Storage
+    ensures { λ r. ⌜ r ≡ storage-from no-keys ⌝ }
+{
+    with_defaults([None; 8])
+}
