@@ -5,6 +5,7 @@ pub mod Lists
 pub mod Names
 pub mod Numbers
 pub mod Outcomes
+pub mod Queries
 pub mod Records
 pub mod Statements
 pub mod Steps

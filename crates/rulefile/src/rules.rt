@@ -153,6 +153,20 @@ pub enum Statement {
     },
 }
 
+// Which kind of statement.
+#[derive(Clone, Copy)]
+pub enum StatementKind {
+    Set,
+    Device,
+    Deltas,
+    Single,
+    Pair,
+    Class,
+    Break,
+    Build,
+    Ask,
+}
+
 // A statement and the number of its line, counted from 1.
 #[derive(Drop)]
 pub struct Line {
