@@ -4,3 +4,4 @@ pub mod Finding
 pub mod Recording
 pub mod Listing
 pub mod Lines
+pub mod Counting

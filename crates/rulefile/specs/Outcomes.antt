@@ -19,6 +19,11 @@ abbrev pub mapped : {X Y : Type 0} → (X → Y) → Option X → Option Y
 mapped f None = None
 mapped f (Some x) = Some (f x)
 
+-- the first of two that is there
+abbrev pub first-some : {X : Type 0} → Option X → Option X → Option X
+first-some None o = o
+first-some (Some x) o = Some x
+
 -- go on with a value, or stay with what is wrong
 abbrev pub then : {X Y : Type 0} → Result X Fault → (X → Result Y Fault) → Result Y Fault
 then (Ok x) f = f x

@@ -40,8 +40,11 @@ kind-place Break = 6
 kind-place Build = 7
 kind-place Ask = 8
 
+abbrev pub is-kind : StatementKind → Said → Bool
+is-kind k x = eqb (kind-place (kind-of x)) (kind-place k)
+
 abbrev pub of-kind : StatementKind → Told → Bool
-of-kind k t = eqb (kind-place (kind-of (t .says))) (kind-place k)
+of-kind k t = is-kind k (t .says)
 
 -- a device or a delta list stands beside a metric by its name
 abbrev pub reference-uses : Option Reference → ℕ → Bool
@@ -75,6 +78,9 @@ statement-uses (a-class a b r) e = set-uses a e || (set-uses b e || records-use 
 statement-uses a-break e = false
 statement-uses a-build e = false
 statement-uses (a-question q) e = false
+
+abbrev pub using-entry : ℕ → Told → Bool
+using-entry e t = statement-uses (t .says) e
 
 -- how many of a list pass a test
 abbrev pub how-many : {X : Type 0} → (X → Bool) → List X → ℕ

@@ -20,6 +20,7 @@ use Rattle.rulefile.specs.declared.rules.Statement.{Statement}
 use Rattle.rulefile.specs.declared.rules.Statement.the-variants as statement
 use Rattle.rulefile.specs.declared.rules.StoreKind.{StoreKind}
 use Rattle.rulefile.specs.declared.rules.StoreKind.the-variants as store
+use Rattle.rulefile.specs.declared.statements.Asked.{Asked}
 use Rattle.rulefile.specs.Lists.{glyph-of}
 use Rattle.rulefile.specs.Names.{Named, set-reference-of}
 use Rattle.rulefile.specs.Numbers.{unsigned-up-to}
@@ -99,12 +100,18 @@ abbrev pub past-second : Option ℕ → ℕ
 past-second None = 2
 past-second (Some g) = 3
 
--- ask GLYPH [GLYPH] [ppem P] [region R]: without a size it is 0
+-- [ppem P] [region R] and no more: without a size it is 0
+abbrev pub asked-of : List (List ℕ) → ℕ → Result Asked Fault
+asked-of ws at =
+    then (option-at ws at (codes "ppem") fault.PixelSize) (λ p.
+    then (option-at ws (past at p) (codes "region") fault.Region) (λ r.
+    then (no-more ws (past (past at p) r)) (λ _.
+    Ok (record { ppem = valueOr p 0; region = r }))))
+
+-- ask GLYPH [GLYPH] [ppem P] [region R]
 abbrev pub question-of : LookupKind → List (List ℕ) → Result Question Fault
 question-of k ws =
     then (glyph-of (word ws 1)) (λ a.
     then (second-of k ws) (λ b.
-    then (option-at ws (past-second b) (codes "ppem") fault.PixelSize) (λ p.
-    then (option-at ws (past (past-second b) p) (codes "region") fault.Region) (λ r.
-    then (no-more ws (past (past (past-second b) p) r)) (λ _.
-    Ok (record { first = a; second = b; ppem = valueOr p 0; region = r }))))))
+    then (asked-of ws (past-second b)) (λ q.
+    Ok (record { first = a; second = b; ppem = q .ppem; region = q .region }))))

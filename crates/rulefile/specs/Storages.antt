@@ -14,21 +14,29 @@ use Rattle.rulefile.specs.declared.fault.Fault.{Fault}
 use Rattle.rulefile.specs.declared.fault.Fault.the-variants as fault
 use Rattle.rulefile.specs.declared.rules.Storage.{Storage}
 use Rattle.rulefile.specs.Numbers.{unsigned-up-to}
-use Rattle.rulefile.specs.Outcomes.{wanted, then, word-by-word}
+use Rattle.rulefile.specs.Outcomes.{first-some, wanted, then, word-by-word}
 use Rattle.rulefile.specs.Records.{words-between}
 use Rattle.rulefile.specs.Words.{cut-at, same-word}
 
--- the keys, in this order
-abbrev pub key-of : List ℕ → Option ℕ
-key-of w =
+-- the keys that count places in a table
+abbrev pub table-key : List ℕ → Option ℕ
+table-key w =
     cond (same-word w (codes "sets")) (Some 0)
-    (cond (same-word w (codes "set-pool")) (Some 1)
     (cond (same-word w (codes "devices")) (Some 2)
-    (cond (same-word w (codes "device-pool")) (Some 3)
     (cond (same-word w (codes "deltas")) (Some 4)
-    (cond (same-word w (codes "delta-pool")) (Some 5)
     (cond (same-word w (codes "rules")) (Some 6)
-    (cond (same-word w (codes "store")) (Some 7) None)))))))
+    (cond (same-word w (codes "store")) (Some 7) None))))
+
+-- the keys that count elements of a pool
+abbrev pub pool-key : List ℕ → Option ℕ
+pool-key w =
+    cond (same-word w (codes "set-pool")) (Some 1)
+    (cond (same-word w (codes "device-pool")) (Some 3)
+    (cond (same-word w (codes "delta-pool")) (Some 5) None))
+
+-- the place of a key in the order sets, set-pool, devices, device-pool, deltas, delta-pool, rules, store
+abbrev pub key-of : List ℕ → Option ℕ
+key-of w = first-some (table-key w) (pool-key w)
 
 -- a key may stand once
 abbrev pub put-once : List (Option ℕ) → ℕ → ℕ → Option ℕ → Result (List (Option ℕ)) Fault

@@ -1,11 +1,13 @@
 // What a program asks of a file that was read. Each question goes through all statements.
-ghost use Rattle.rulefile.specs.Queries.{kind-of, metric-uses, record-uses, records-use, set-uses, statement-uses};
+ghost use Rattle.rulefile.specs.Queries.{how-many, is-kind, kind-of, metric-uses, of-kind, record-uses, records-use, set-uses, statement-uses, using-entry};
 ghost use Rattle.rulefile.specs.Entries.{said};
+ghost use Rattle.rulefile.specs.Files.{file-of};
 ghost use mathlib.Core.Path.{_≡_};
 use crate::rules::Metric;
 use crate::rules::Record;
 use crate::rules::Records;
 use crate::rules::Reference;
+use crate::rules::RuleFile;
 use crate::rules::SetReference;
 use crate::rules::Statement;
 use crate::rules::StatementKind;
@@ -66,17 +68,60 @@ impl Statement {
         }
     }
 
+    // Whether it is of a kind.
+    fn is(&self, kind: StatementKind) -> bool
+        ensures { λ r. ⌜ r ≡ is-kind kind (said (now (self .entry))) ⌝ }
+    {
+        self.kind() as u8 == kind as u8
+    }
+
     // Whether a rule refers to an entry by its name.
     fn uses(&self, entry: usize) -> bool
         ensures { λ r. ⌜ r ≡ statement-uses (said (now (self .entry))) entry ⌝ }
     {
         match self {
             Statement::Single { glyph: _, record } => record_uses(*record, entry),
-            Statement::Pair { first: _, second: _, records } => records_use(*records, entry),
-            Statement::Class { first, second, records } => {
+            Statement::Pair {
+                first: _,
+                second: _,
+                records,
+            } => records_use(*records, entry),
+            Statement::Class {
+                first,
+                second,
+                records,
+            } => {
                 set_uses(*first, entry) || set_uses(*second, entry) || records_use(*records, entry)
             }
             _ => false,
         }
+    }
+}
+
+impl RuleFile {
+    // How many statements of a kind the file has.
+    pub fn count(&self, kind: StatementKind) -> usize
+        ensures { λ r. ⌜ r ≡ how-many (of-kind kind) (file-of (now (self .entry)) .statements) ⌝ }
+    {
+        let mut count = 0;
+        for at in 0..self.statements.len() {
+            if self.statements[at].statement.is(kind) {
+                count += 1;
+            }
+        }
+        count
+    }
+
+    // How many statements refer to an entry by its name.
+    pub fn uses(&self, place: usize) -> usize
+        ensures { λ r. ⌜ r ≡ how-many (using-entry place) (file-of (now (self .entry)) .statements) ⌝ }
+    {
+        let mut count = 0;
+        for at in 0..self.statements.len() {
+            if self.statements[at].statement.uses(place) {
+                count += 1;
+            }
+        }
+        count
     }
 }

@@ -2,7 +2,7 @@
 ghost use Prim.Native.Nat.{_+_, _≤_};
 ghost use Rattle.rulefile.specs.Lists.{glyph-of};
 ghost use Rattle.rulefile.specs.Names.{named};
-ghost use Rattle.rulefile.specs.Statements.{class-of, lookup-kind-of, lookup-of, no-more, option-at, pair-of, past, past-second, question-of, second-of, single-of, store-of};
+ghost use Rattle.rulefile.specs.Statements.{asked-of, class-of, lookup-kind-of, lookup-of, no-more, option-at, pair-of, past, past-second, question-of, second-of, single-of, store-of};
 ghost use Rattle.rulefile.specs.Words.{words-in};
 ghost use lib.ListN.{getD};
 ghost use mathlib.Core.List.{[], map};
@@ -21,6 +21,13 @@ use crate::rules::Statement;
 use crate::rules::StoreKind;
 use crate::words::Words;
 use crate::words::is_word;
+
+// The size and the region of a question.
+#[derive(Clone, Copy)]
+struct Asked {
+    ppem: u16,
+    region: Option<u16>,
+}
 
 // The glyph at a place.
 fn read_glyph(words: &Words, at: usize) -> Result<u16, Fault>
@@ -176,21 +183,32 @@ fn past_glyphs(second: Option<u16>) -> usize
     }
 }
 
+// [ppem P] [region R] at a place, and no more
+fn read_asked(words: &Words, at: usize) -> Result<Asked, Fault>
+    requires { ⌜ at ≤ 3 ⌝ }
+    ensures { λ r. ⌜ r ≡ asked-of (words-in (now (words .entry))) at ⌝ }
+{
+    let ppem = read_option(words, at, b"ppem", Fault::PixelSize)?;
+    let then = past_option(at, ppem);
+    let region = read_option(words, then, b"region", Fault::Region)?;
+    read_end(words, past_option(then, region))?;
+    Ok(Asked {
+        ppem: ppem.unwrap_or(0),
+        region,
+    })
+}
+
 // ask GLYPH [GLYPH] [ppem P] [region R]
 pub(crate) fn read_question(kind: LookupKind, words: &Words) -> Result<Question, Fault>
     ensures { λ r. ⌜ r ≡ question-of kind (words-in (now (words .entry))) ⌝ }
 {
     let first = read_glyph(words, 1)?;
     let second = read_second(kind, words)?;
-    let at = past_glyphs(second);
-    let ppem = read_option(words, at, b"ppem", Fault::PixelSize)?;
-    let then = past_option(at, ppem);
-    let region = read_option(words, then, b"region", Fault::Region)?;
-    read_end(words, past_option(then, region))?;
+    let asked = read_asked(words, past_glyphs(second))?;
     Ok(Question {
         first,
         second,
-        ppem: ppem.unwrap_or(0),
-        region,
+        ppem: asked.ppem,
+        region: asked.region,
     })
 }

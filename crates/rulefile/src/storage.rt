@@ -1,5 +1,5 @@
 // Reads `storage`: how many places are brought, by keys that may each stand once.
-ghost use Rattle.rulefile.specs.Storages.{added-key, key-of, no-keys, put-key, storage-from, storage-of};
+ghost use Rattle.rulefile.specs.Storages.{added-key, key-of, no-keys, pool-key, put-key, storage-from, storage-of, table-key};
 ghost use Rattle.rulefile.specs.Outcomes.{word-by-word};
 ghost use Rattle.rulefile.specs.Records.{words-between};
 ghost use Rattle.rulefile.specs.Words.{words-in};
@@ -16,29 +16,50 @@ use crate::words::front;
 use crate::words::is_word;
 use crate::words::rest;
 
-// The place of a key.
-fn read_key(word: &[u8]) -> Option<usize>
+// The place of a key that counts places in a table.
+fn table_key(word: &[u8]) -> Option<usize>
     ensures within { λ r. ⌜ Cases r (Unit {0}) (λ k. k < 8) ⌝ }
-    ensures value { λ r. ⌜ r ≡ key-of (now (word .entry)) ⌝ }
+    ensures value { λ r. ⌜ r ≡ table-key (now (word .entry)) ⌝ }
 {
     if is_word(word, b"sets") {
         Some(0)
-    } else if is_word(word, b"set-pool") {
-        Some(1)
     } else if is_word(word, b"devices") {
         Some(2)
-    } else if is_word(word, b"device-pool") {
-        Some(3)
     } else if is_word(word, b"deltas") {
         Some(4)
-    } else if is_word(word, b"delta-pool") {
-        Some(5)
     } else if is_word(word, b"rules") {
         Some(6)
     } else if is_word(word, b"store") {
         Some(7)
     } else {
         None
+    }
+}
+
+// The place of a key that counts elements of a pool.
+fn pool_key(word: &[u8]) -> Option<usize>
+    ensures within { λ r. ⌜ Cases r (Unit {0}) (λ k. k < 8) ⌝ }
+    ensures value { λ r. ⌜ r ≡ pool-key (now (word .entry)) ⌝ }
+{
+    if is_word(word, b"set-pool") {
+        Some(1)
+    } else if is_word(word, b"device-pool") {
+        Some(3)
+    } else if is_word(word, b"delta-pool") {
+        Some(5)
+    } else {
+        None
+    }
+}
+
+// The place of a key.
+fn read_key(word: &[u8]) -> Option<usize>
+    ensures within { λ r. ⌜ Cases r (Unit {0}) (λ k. k < 8) ⌝ }
+    ensures value { λ r. ⌜ r ≡ key-of (now (word .entry)) ⌝ }
+{
+    match table_key(word) {
+        Some(at) => Some(at),
+        None => pool_key(word),
     }
 }
 
