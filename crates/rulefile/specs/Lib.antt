@@ -10,4 +10,5 @@ pub mod Records
 pub mod Statements
 pub mod Steps
 pub mod Storages
+pub mod Texts
 pub mod Words

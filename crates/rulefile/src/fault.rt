@@ -1,5 +1,6 @@
 // What can be wrong with a line of a rule file, and how that is said to its author.
 ghost use Rattle.rulefile.specs.declared.fault.Stop.the-variants.{Memory, Wrong};
+ghost use Rattle.rulefile.specs.Texts.{text-of};
 ghost use mathlib.Core.Path.{_≡_};
 use std::alloc::AllocError;
 use std::alloc::Refused;
@@ -40,7 +41,9 @@ pub enum Fault {
 
 impl Fault {
     // One sentence for whoever wrote the file.
-    pub fn text(self) -> &'static str {
+    pub fn text(self) -> &'static str
+        ensures { λ r. ⌜ now r ≡ text-of self ⌝ }
+    {
         match self {
             Fault::Statement => "no statement begins with this word",
             Fault::Extra => "there are more words than this statement takes",
