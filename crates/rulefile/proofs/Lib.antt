@@ -5,3 +5,4 @@ pub mod Recording
 pub mod Listing
 pub mod Lines
 pub mod Counting
+pub mod Rising

@@ -2,7 +2,7 @@
 use mathlib.Core.Bool.{true, false}
 use mathlib.Core.List.{List, [], _∷_, _++_, map}
 use mathlib.Core.Path.{_≡_}
-use Prim.Native.Nat.{ℕ, _+_}
+use Prim.Native.Nat.{ℕ, _+_, _≤_, _<_}
 use lib.Dec.{eqb}
 use lib.ListN.{length}
 use Rattle.std.specs.Of.Vec.{vec-items}
@@ -97,3 +97,13 @@ Parsed view (Err (Wrong m)) due = Err m ≡ due
 abbrev pub error-at : ℕ → Stop → Error
 error-at n stop.Memory = Memory
 error-at n (stop.Wrong f) = Wrong (record { line = n; fault = f })
+
+-- every statement stands on a later line than the one before it, and the first after the line n
+abbrev pub Rises : ℕ → List Told → Type 0
+Rises n [] = Unit {0}
+Rises n (t ∷ ts) = (n < t .line) × Rises (t .line) ts
+
+-- a mistake is on one of n lines
+abbrev pub Within : ℕ → Error → Type 0
+Within n Memory = Unit {0}
+Within n (Wrong m) = (1 ≤ m .line) × (m .line ≤ n)

@@ -1,9 +1,10 @@
 // Reads a whole rule file. Linear in the text, but for the search of each name among those before it.
-ghost use Rattle.rulefile.specs.Files.{Parsed, error-at, file-of, finished, lines-from, lines-of, nothing, parsed};
+ghost use Rattle.rulefile.specs.Files.{Parsed, Rises, Within, error-at, file-of, finished, lines-from, lines-of, nothing, parsed};
 ghost use Rattle.rulefile.specs.Steps.{state-of};
 ghost use Rattle.rulefile.specs.Words.{words-at};
 ghost use Rattle.std.specs.Of.Vec.{vec-items};
-ghost use Rattle.std.specs.Vec.{made};
+ghost use Rattle.std.specs.Vec.{made, refused};
+ghost use lib.ListN.{length};
 ghost use mathlib.Core.Path.{_≡_};
 use crate::fault::Fault;
 use crate::fault::Stop;
@@ -91,8 +92,8 @@ fn finish(parser: Parser, lines: usize) -> Result<RuleFile, Error>
     }
 }
 
-// What the text of a rule file says, or its first mistake.
-pub fn parse(heap: Global, text: &[u8]) -> Result<RuleFile, Error>
+// What the text says, or its first mistake.
+fn read_text(heap: Global, text: &[u8]) -> Result<RuleFile, Error>
     ensures { λ r. ⌜ Parsed file-of r (parsed (now (text .entry))) ⌝ }
 {
     let Ok(lines) = cut_lines(heap, text) else {
@@ -102,4 +103,13 @@ pub fn parse(heap: Global, text: &[u8]) -> Result<RuleFile, Error>
         Ok(parser) => finish(parser, lines.len()),
         Err(error) => Err(error),
     }
+}
+
+// What the text of a rule file says, or its first mistake.
+pub fn parse(heap: Global, text: &[u8]) -> Result<RuleFile, Error>
+    ensures value { λ r. ⌜ Parsed file-of r (parsed (now (text .entry))) ⌝ }
+    ensures place { λ r. ⌜ refused r (Within (length (lines-of (now (text .entry))))) ⌝ }
+    ensures rising { λ r. ⌜ made r (λ f. Rises 0 (file-of f .statements)) ⌝ }
+{
+    read_text(heap, text)
 }
