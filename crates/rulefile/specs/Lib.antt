@@ -1,0 +1,14 @@
+pub mod Entries
+pub mod Files
+pub mod Keywords
+pub mod Lists
+pub mod Names
+pub mod Numbers
+pub mod Outcomes
+pub mod Queries
+pub mod Records
+pub mod Statements
+pub mod Steps
+pub mod Storages
+pub mod Texts
+pub mod Words

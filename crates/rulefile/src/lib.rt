@@ -1,0 +1,37 @@
+// Reads rule files: the text of a lookup's rules, one statement a line.
+mod entries;
+mod fault;
+mod file;
+mod keywords;
+mod lists;
+mod names;
+mod numbers;
+mod parser;
+mod queries;
+mod records;
+mod rules;
+mod statements;
+mod storage;
+mod words;
+
+pub use fault::Fault;
+pub use file::parse;
+pub use rules::Delta;
+pub use rules::Entry;
+pub use rules::EntryKind;
+pub use rules::Error;
+pub use rules::Line;
+pub use rules::Lookup;
+pub use rules::LookupKind;
+pub use rules::Metric;
+pub use rules::Mistake;
+pub use rules::Question;
+pub use rules::Record;
+pub use rules::Records;
+pub use rules::Reference;
+pub use rules::RuleFile;
+pub use rules::SetReference;
+pub use rules::Statement;
+pub use rules::StatementKind;
+pub use rules::Storage;
+pub use rules::StoreKind;
