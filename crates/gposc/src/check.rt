@@ -18,14 +18,20 @@ pub fn print_usage(rt: &LibcRuntime) -> io::Result<()> {
 
 // Reads a file and prints what it has; a wrong file is reported as FILE:LINE: text on standard error.
 pub fn check_file(rt: &LibcRuntime, path: &str) -> Result<(), AnyError> {
-    let text = fs::read(rt, path)?;
+    let Ok(text) = fs::read(rt, path) else {
+        eprintln!(rt, "{path}: this file cannot be read")?;
+        return Err("no rule file".into());
+    };
     match parse(rt.alloc(), text.as_slice()) {
         Ok(file) => {
             print_counts(rt, &file)?;
             print_names(rt, &file)?;
             Ok(())
         }
-        Err(Error::Memory) => Err("there is not enough memory for this file".into()),
+        Err(Error::Memory) => {
+            eprintln!(rt, "{path}: there is not enough memory for this file")?;
+            Err("no memory".into())
+        }
         Err(Error::Wrong(mistake)) => {
             let line = mistake.line;
             let text = mistake.fault.text();

@@ -38,6 +38,7 @@ pub data Said : Type 0 where
   a-build : Said
   a-question : Question → Said
 
+-- what a statement that was read says
 abbrev pub said : Statement → Said
 said (statement.Set e gs) = a-set e (vec-items gs)
 said (statement.Device e first last vs) = a-device e first last (vec-items vs)
@@ -57,6 +58,7 @@ fresh-name es w = cond (is-name w) (cond (isSome (place-of w es)) (Err fault.Nam
 abbrev pub set-entry : ℕ → List (List ℕ) → Result Said Fault
 set-entry e ws = then (each glyph-of (drop 2 ws)) (λ gs. Ok (a-set e gs))
 
+-- a pixel size of a device
 abbrev pub device-size : List ℕ → Result ℕ Fault
 device-size w = wanted (unsigned-up-to 65535 w) fault.DeviceSize
 
@@ -72,6 +74,7 @@ device-entry e ws =
 abbrev pub deltas-entry : ℕ → List (List ℕ) → Result Said Fault
 deltas-entry e ws = then (each delta-of (drop 2 ws)) (λ ds. Ok (a-delta-list e ds))
 
+-- the statement of an entry of a kind
 abbrev pub entry-of : EntryKind → ℕ → List (List ℕ) → Result Said Fault
 entry-of entry.Set e ws = set-entry e ws
 entry-of entry.Device e ws = device-entry e ws

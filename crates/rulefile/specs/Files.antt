@@ -32,6 +32,7 @@ abbrev pub lines-after : List ℕ → List ℕ → List (List ℕ)
 lines-after line [] = line ∷ []
 lines-after line (b ∷ bs) = elim (eqb b 10) [ true ↦ line ∷ lines-after [] bs | false ↦ lines-after (line ++ b ∷ []) bs ]
 
+-- the lines of a text
 abbrev pub lines-of : List ℕ → List (List ℕ)
 lines-of text = lines-after [] text
 
@@ -57,6 +58,7 @@ pub record File : Type 0 where
   pub entries : List Named
   pub statements : List Told
 
+-- what a file that was read says
 abbrev pub file-of : RuleFile → File
 file-of f = record {
   storage = f .storage;
@@ -77,9 +79,11 @@ opened n s (Some l) = Ok (record {
   statements = s .statements;
 })
 
+-- what a file says whose n lines have said s
 abbrev pub finished : ℕ → State → Result File Mistake
 finished n s = opened n s (s .lookup)
 
+-- go on after the last line, unless a line is wrong
 abbrev pub afterwards : Result State Mistake → (State → Result File Mistake) → Result File Mistake
 afterwards (Ok s) f = f s
 afterwards (Err m) f = Err m
@@ -94,6 +98,7 @@ Parsed view (Ok x) due = Ok (view x) ≡ due
 Parsed view (Err Memory) due = Unit {0}
 Parsed view (Err (Wrong m)) due = Err m ≡ due
 
+-- why a file is not read, where reading stopped at the line n
 abbrev pub error-at : ℕ → Stop → Error
 error-at n stop.Memory = Memory
 error-at n (stop.Wrong f) = Wrong (record { line = n; fault = f })

@@ -11,9 +11,11 @@ use Rattle.rulefile.specs.Numbers.{unsigned-up-to, signed-up-to}
 use Rattle.rulefile.specs.Outcomes.{wanted, then}
 use Rattle.rulefile.specs.Words.{cut-at}
 
+-- a glyph of a set
 abbrev pub glyph-of : List ℕ → Result ℕ Fault
 glyph-of w = wanted (unsigned-up-to 65535 w) fault.Glyph
 
+-- a value of a device
 abbrev pub device-value-of : List ℕ → Result ℤ Fault
 device-value-of w = wanted (signed-up-to 127 w) fault.DeviceValue
 

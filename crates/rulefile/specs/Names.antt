@@ -30,6 +30,7 @@ pub record Named : Type 0 where
   pub line : ℕ
   pub name : List ℕ
 
+-- what an entry that was read names
 abbrev pub named : Entry → Named
 named e = record { kind = e .kind; line = e .line; name = vec-items (e .name) }
 
@@ -38,6 +39,7 @@ abbrev pub place-from : ℕ → List ℕ → List Named → Option Found
 place-from at name [] = None
 place-from at name (e ∷ es) = elim (same-word (e .name) name) [ true ↦ Some (record { entry = at; kind = e .kind }) | false ↦ place-from (at + 1) name es ]
 
+-- the first entry of a name
 abbrev pub place-of : List ℕ → List Named → Option Found
 place-of name es = place-from 0 name es
 

@@ -32,6 +32,7 @@ abbrev pub up-to : ℕ → Option ℕ → Option ℕ
 up-to limit None = None
 up-to limit (Some n) = cond (leb n limit) (Some n) None
 
+-- digits of a base that stand for at most `limit`
 abbrev pub digits-up-to : ℕ → ℕ → List ℕ → Option ℕ
 digits-up-to base limit bs = up-to limit (digits-value base bs)
 
@@ -41,13 +42,16 @@ unsigned-value [] = None
 unsigned-value (a ∷ []) = digits-value 10 (a ∷ [])
 unsigned-value (a ∷ b ∷ bs) = elim (eqb a 48 && eqb b 120) [ true ↦ digits-value 16 bs | false ↦ digits-value 10 (a ∷ b ∷ bs) ]
 
+-- a number from 0 to `limit`
 abbrev pub unsigned-up-to : ℕ → List ℕ → Option ℕ
 unsigned-up-to limit bs = up-to limit (unsigned-value bs)
 
+-- a number with no sign
 abbrev pub positive : Option ℕ → Option ℤ
 positive None = None
 positive (Some n) = Some (pos n)
 
+-- a number after `-`
 abbrev pub negative : Option ℕ → Option ℤ
 negative None = None
 negative (Some n) = Some (negℤ (pos n))

@@ -15,6 +15,7 @@ abbrev pub wanted : {X : Type 0} → Option X → Fault → Result X Fault
 wanted None f = Err f
 wanted (Some x) f = Ok x
 
+-- a value made from another, if that is there
 abbrev pub mapped : {X Y : Type 0} → (X → Y) → Option X → Option Y
 mapped f None = None
 mapped f (Some x) = Some (f x)

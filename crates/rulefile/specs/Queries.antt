@@ -17,6 +17,7 @@ use Rattle.rulefile.specs.declared.rules.StatementKind.the-variants.{Set, Devi
 use Rattle.rulefile.specs.Entries.{Said, a-set, a-device, a-delta-list, a-single, a-pair, a-class, a-break, a-build, a-question}
 use Rattle.rulefile.specs.Steps.{Told}
 
+-- which kind of statement it is
 abbrev pub kind-of : Said → StatementKind
 kind-of (a-set e gs) = Set
 kind-of (a-device e a b vs) = Device
@@ -40,9 +41,11 @@ kind-place Break = 6
 kind-place Build = 7
 kind-place Ask = 8
 
+-- a statement is of a kind
 abbrev pub is-kind : StatementKind → Said → Bool
 is-kind k x = eqb (kind-place (kind-of x)) (kind-place k)
 
+-- what a line says is of a kind
 abbrev pub of-kind : StatementKind → Told → Bool
 of-kind k t = is-kind k (t .says)
 
@@ -53,16 +56,20 @@ reference-uses (Some (DeviceNumber n)) e = false
 reference-uses (Some (DeltasNumber n)) e = false
 reference-uses (Some (Entered place)) e = eqb place e
 
+-- a metric refers to an entry by its name
 abbrev pub metric-uses : Option Metric → ℕ → Bool
 metric-uses None e = false
 metric-uses (Some m) e = reference-uses (m .beside) e
 
+-- one of the four metrics does
 abbrev pub record-uses : Record → ℕ → Bool
 record-uses r e = metric-uses (r .«x_advance») e || (metric-uses (r .«y_advance») e || (metric-uses (r .«x_placement») e || metric-uses (r .«y_placement») e))
 
+-- one of the two records does
 abbrev pub records-use : Records → ℕ → Bool
 records-use r e = record-uses (r .first) e || record-uses (r .second) e
 
+-- a set is given by its name
 abbrev pub set-uses : SetReference → ℕ → Bool
 set-uses (SetNumber n) e = false
 set-uses (EnteredSet place) e = eqb place e
@@ -79,6 +86,7 @@ statement-uses a-break e = false
 statement-uses a-build e = false
 statement-uses (a-question q) e = false
 
+-- what a line says refers to an entry by its name
 abbrev pub using-entry : ℕ → Told → Bool
 using-entry e t = statement-uses (t .says) e
 

@@ -52,6 +52,7 @@ abbrev pub once : Option Metric → Record → Result Record Fault
 once None r = Ok r
 once (Some m) r = Err fault.MetricTwice
 
+-- the record with one metric more, unless it has that metric
 abbrev pub with-metric : Record → MetricKind → Metric → Result Record Fault
 with-metric r XAdvance m = once (r .«x_advance») (record { «x_advance» = Some m; «y_advance» = r .«y_advance»; «x_placement» = r .«x_placement»; «y_placement» = r .«y_placement» })
 with-metric r YAdvance m = once (r .«y_advance») (record { «x_advance» = r .«x_advance»; «y_advance» = Some m; «x_placement» = r .«x_placement»; «y_placement» = r .«y_placement» })

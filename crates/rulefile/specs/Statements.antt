@@ -46,6 +46,7 @@ past at (Some n) = at + 2
 abbrev pub no-more : List (List ℕ) → ℕ → Result (Unit {0}) Fault
 no-more ws at = cond (ltb at (length ws)) (Err fault.Extra) (Ok tt)
 
+-- the kind of a lookup
 abbrev pub lookup-kind-of : List ℕ → Result LookupKind Fault
 lookup-kind-of w =
     cond (same-word w (codes "single")) (Ok kind.Single) (cond (same-word w (codes "pair")) (Ok kind.Pair) (Err fault.LookupKind))
@@ -96,6 +97,7 @@ abbrev pub second-of : LookupKind → List (List ℕ) → Result (Option ℕ) Fa
 second-of kind.Single ws = Ok None
 second-of kind.Pair ws = then (glyph-of (word ws 2)) (λ g. Ok (Some g))
 
+-- the place after the glyphs of a question
 abbrev pub past-second : Option ℕ → ℕ
 past-second None = 2
 past-second (Some g) = 3

@@ -39,6 +39,7 @@ pub record Told : Type 0 where
   pub line : ℕ
   pub says : Said
 
+-- what a line that was read says
 abbrev pub told : Line → Told
 told l = record { line = l .number; says = said (l .statement) }
 
@@ -50,6 +51,7 @@ pub record State : Type 0 where
   pub entries : List Named
   pub statements : List Told
 
+-- what has been read so far
 abbrev pub state-of : Parser → State
 state-of p = record {
   storage = p .storage;
@@ -63,12 +65,14 @@ state-of p = record {
 abbrev pub before-lookup : Bool → Bool → Result (Unit {0}) Fault
 before-lookup opened given = cond opened (Err fault.AfterLookup) (cond given (Err fault.Twice) (Ok tt))
 
+-- the state after `storage`
 abbrev pub storage-step : State → List (List ℕ) → Result State Fault
 storage-step s ws =
     then (before-lookup (isSome (s .lookup)) (isSome (s .storage))) (λ _.
     then (storage-of ws) (λ x.
     Ok (record { storage = Some x; store = s .store; lookup = s .lookup; entries = s .entries; statements = s .statements })))
 
+-- the state after `store`
 abbrev pub store-step : State → List (List ℕ) → Result State Fault
 store-step s ws =
     then (before-lookup (isSome (s .lookup)) (isSome (s .store))) (λ _.
@@ -114,6 +118,7 @@ and-names s e = record {
   statements = s .statements;
 }
 
+-- a name of a kind that the line n gives
 abbrev pub name-given : EntryKind → ℕ → List ℕ → Named
 name-given k n w = record { kind = k; line = n; name = w }
 
@@ -122,9 +127,11 @@ abbrev pub in-lookup : {X : Type 0} → Option Lookup → (LookupKind → Result
 in-lookup None f = Err fault.NoLookup
 in-lookup (Some l) f = f (l .kind)
 
+-- a rule, a section, a build or a question, after `lookup`
 abbrev pub rule-here : State → RuleKind → List (List ℕ) → Result Statement Fault
 rule-here s r ws = in-lookup (s .lookup) (λ k. rule-of (s .entries) k r ws)
 
+-- the state after one of these
 abbrev pub rule-step : State → ℕ → RuleKind → List (List ℕ) → Result State Fault
 rule-step s n r ws = then (rule-here s r ws) (λ x. Ok (and-says s n (said x)))
 
@@ -136,9 +143,11 @@ may-enter s w = in-lookup (s .lookup) (λ _. fresh-name (s .entries) w)
 abbrev pub entry-here : State → EntryKind → List (List ℕ) → Result Said Fault
 entry-here s k ws = then (may-enter s (word ws 1)) (λ _. entry-of k (length (s .entries)) ws)
 
+-- the state after `set`, `device` or `deltas`
 abbrev pub enter-step : State → ℕ → EntryKind → List (List ℕ) → Result State Fault
 enter-step s n k ws = then (entry-here s k ws) (λ x. Ok (and-says (and-names s (name-given k n (word ws 1))) n x))
 
+-- the state after a line, by the statement that its first word stands for
 abbrev pub keyword-step : State → ℕ → List (List ℕ) → Option Keyword → Result State Fault
 keyword-step s n ws None = Err fault.Statement
 keyword-step s n ws (Some keyword.Storage) = storage-step s ws
@@ -147,6 +156,7 @@ keyword-step s n ws (Some keyword.Lookup) = lookup-step s ws
 keyword-step s n ws (Some (keyword.Entry k)) = enter-step s n k ws
 keyword-step s n ws (Some (keyword.Rule r)) = rule-step s n r ws
 
+-- the state after a line that has words
 abbrev pub statement-step : State → ℕ → List (List ℕ) → Result State Fault
 statement-step s n ws = keyword-step s n ws (keyword-of (word ws 0))
 

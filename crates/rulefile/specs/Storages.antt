@@ -67,6 +67,7 @@ storage-from given = record {
   store = valueOr (getD given 7 None) 65535;
 }
 
+-- no key is given
 abbrev pub no-keys : List (Option ℕ)
 no-keys = None ∷ None ∷ None ∷ None ∷ None ∷ None ∷ None ∷ None ∷ []
 

@@ -5,6 +5,7 @@ use lib.Chars.{codes}
 use Rattle.rulefile.specs.declared.fault.Fault.{Fault}
 use Rattle.rulefile.specs.declared.fault.Fault.the-variants as fault
 
+-- one sentence for each fault
 abbrev pub text-of : Fault → List ℕ
 text-of fault.Statement = codes "no statement begins with this word"
 text-of fault.Extra = codes "there are more words than this statement takes"

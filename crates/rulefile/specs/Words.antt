@@ -31,6 +31,7 @@ abbrev pub pieces-after : List ℕ → List ℕ → List (List ℕ)
 pieces-after word [] = flush word
 pieces-after word (b ∷ bs) = elim (eqb b 32) [ true ↦ flush word ++ pieces-after [] bs | false ↦ pieces-after (word ++ b ∷ []) bs ]
 
+-- the pieces of a line between its spaces
 abbrev pub pieces : List ℕ → List (List ℕ)
 pieces line = pieces-after [] line
 
@@ -48,6 +49,7 @@ words-of line = before-comment (pieces line)
 abbrev pub words-at : List ℕ → List Part → List (List ℕ)
 words-at bytes parts = map (part-of bytes) parts
 
+-- the words of a line that was cut
 abbrev pub words-in : Words → List (List ℕ)
 words-in w = words-at (vec-items (w .line)) (vec-items (w .parts))
 
@@ -59,6 +61,7 @@ letter b = (leb 65 b && leb b 90) || (leb 97 b && leb b 122)
 abbrev pub name-byte : ℕ → Bool
 name-byte b = letter b || ((leb 48 b && leb b 57) || (eqb b 95 || (eqb b 46 || eqb b 45)))
 
+-- every byte is one that a name goes on with
 abbrev pub name-bytes : List ℕ → Bool
 name-bytes [] = true
 name-bytes (b ∷ bs) = name-byte b && name-bytes bs
