@@ -18,3 +18,4 @@ pub mod Ranks
 pub mod PairBuild
 pub mod SetsApart
 pub mod InOrder
+pub mod Grows

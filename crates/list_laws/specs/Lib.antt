@@ -2,3 +2,4 @@ pub mod Says
 pub mod Answering
 pub mod Rising
 pub mod Standing
+pub mod Growing

@@ -1,5 +1,6 @@
 // That the subtables of a build answer as the rule list does, proved of the definitions.
 
+pub mod growing;
 pub mod standing;
 
 ghost use Rattle.list_laws.specs.Answering.{Singles-answer, Pairs-answer};
