@@ -1,14 +1,15 @@
 -- Standing rules and groups grow by one more rule as an insertion makes them.
 use mathlib.Core.Path.{_≡_, refl, sym, ap, subst, _∙_}
-use mathlib.Core.Bool.{Bool, true, false}
+use mathlib.Core.Bool.{Bool, true, false, _&&_, _||_, or-false}
 use mathlib.Core.List.{List, [], _∷_, _++_, reverse, reverse-append}
 use Prim.Native.Nat.{ℕ}
-use lib.Dec.{ltb}
-use Rattle.spec.specs.Lists.{Every, inserted, sorted}
+use lib.Dec.{eqb, ltb}
+use Rattle.spec.specs.Lists.{Every, has, inserted, sorted, same-list, list-before}
 use Rattle.spec.specs.Kinds.{SingleRule, Pair, standing-singles, standing-pairs, pair-before, joins, grouped, groups, cell-before, standing-cells}
-use Rattle.list_laws.specs.Rising.{Rises}
-use Rattle.list_laws.specs.Growing.{replaced, grown, Singles-grow, Pairs-grow, Cells-grow, Groups-grow}
-use Rattle.list_laws.proofs.Orders.{Order, sorted-rises, false-true}
+use Rattle.list_laws.specs.Growing.{replaced, grown, Singles-grow, Pairs-grow, Cells-grow, Groups-grow, Lowest-tells}
+use Rattle.list_laws.proofs.Orders.{Order, false-true}
+use Rattle.list_laws.proofs.Linear.{Linear, numbers-linear, lists-linear}
+use Rattle.list_laws.proofs.Members.{some-none}
 use Rattle.list_laws.proofs.SingleAnswers.{rule-order}
 use Rattle.list_laws.proofs.PairAnswers.{cell-order}
 
@@ -170,3 +171,23 @@ grouped-grows sets group (s ∷ rs) r = go (joins sets group s) (grouped-grows s
 pub groups-grow : Groups-grow
 groups-grow sets [] r = refl
 groups-grow sets (s ∷ rs) r = grouped-grows sets (s ∷ []) rs r
+
+-- ---- lowest glyphs
+
+pub lowest-tells : Lowest-tells
+lowest-tells [] t e f h = some-none e
+lowest-tells (x ∷ s) [] e f h = some-none f
+lowest-tells (x ∷ s) (y ∷ t) e f h = go (eqb x y) refl
+  where
+    go : (b : Bool) → eqb x y ≡ b → ((ltb x y || (eqb x y && list-before s t)) ≡ ltb x y) × ((eqb x y && same-list s t) ≡ eqb x y)
+    go true d =
+        let k = numbers-linear .equal x y d in
+        let r : s ≡ t = tails (h x (held x s) (subst (λ z. has x (z ∷ t) ≡ true) k (held x t))) in
+        (ap (λ b. ltb x y || b) (ap (λ b. b && list-before s t) d ∙ subst (λ z. list-before s z ≡ false) r (lists-linear .apart s)) ∙ or-false (ltb x y), ap (λ b. b && same-list s t) d ∙ (subst (λ z. same-list s z ≡ true) r (lists-linear .self s) ∙ sym d))
+      where
+        tails : {u v : ℕ} {a c : List ℕ} → u ∷ a ≡ v ∷ c → a ≡ c
+        tails e = cc
+
+        held : (g : ℕ) (l : List ℕ) → has g (g ∷ l) ≡ true
+        held g l = ap (λ b. b || has g l) (numbers-linear .self g)
+    go false d = (ap (λ b. ltb x y || (b && list-before s t)) d ∙ or-false (ltb x y), ap (λ b. b && same-list s t) d ∙ sym d)

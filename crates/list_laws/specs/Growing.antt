@@ -4,7 +4,10 @@ use mathlib.Core.Bool.{Bool, true, false}
 use mathlib.Core.List.{List, [], _∷_, _++_}
 use Prim.Native.Nat.{ℕ}
 use lib.Dec.{eqb, ltb}
-use Rattle.spec.specs.Lists.{inserted}
+use lib.ListN.{getD}
+use Rattle.std.specs.declared.option.Option.the-variants.{None}
+use Rattle.spec.specs.Lists.{inserted, has, same-list, list-before}
+use Rattle.spec.specs.Entries.{set-fault}
 use Rattle.spec.specs.Kinds.{SingleRule, Pair, standing-singles, standing-pairs, pair-before, joins, groups, cell-before, standing-cells}
 
 -- x in its place among ys, which stand in the order `before`; one that is equal in that order gives way
@@ -32,3 +35,12 @@ grown sets r (g ∷ h ∷ gs) = g ∷ grown sets r (h ∷ gs)
 
 abbrev pub Groups-grow : Type 0
 Groups-grow = (sets : List (List ℕ)) (rs : List Pair) (r : Pair) → groups sets (rs ++ (r ∷ [])) ≡ grown sets r (groups sets rs)
+
+-- the lowest glyph of a set
+abbrev pub lowest : List ℕ → ℕ
+lowest s = getD s 0 0
+
+-- sets that are the same or share no glyph, none of them empty, are told apart and put in set order by their lowest glyphs
+abbrev pub Lowest-tells : Type 0
+Lowest-tells = (s t : List ℕ) → set-fault s ≡ None → set-fault t ≡ None → ((g : ℕ) → has g s ≡ true → has g t ≡ true → s ≡ t)
+    → (list-before s t ≡ ltb (lowest s) (lowest t)) × (same-list s t ≡ eqb (lowest s) (lowest t))
