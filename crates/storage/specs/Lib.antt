@@ -1,1 +1,4 @@
+pub mod Answers
+pub mod Deltas
 pub mod Denials
+pub mod Interners

@@ -1,3 +1,8 @@
 // The state of an open lookup, over memory that the caller brings.
 
+pub mod delta;
 pub mod denial;
+pub mod exact;
+pub mod interner;
+mod lists;
+pub mod span;
