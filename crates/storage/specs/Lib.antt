@@ -1,4 +1,5 @@
 pub mod Answers
 pub mod Deltas
 pub mod Denials
+pub mod Entries
 pub mod Interners

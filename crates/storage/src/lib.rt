@@ -2,7 +2,9 @@
 
 pub mod delta;
 pub mod denial;
+pub mod entries;
 pub mod exact;
+mod faults;
 pub mod interner;
 mod lists;
 pub mod span;
