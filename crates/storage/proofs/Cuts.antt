@@ -41,7 +41,7 @@ module _ {A : Type 0} where
   at-past (x ∷ xs) zero h = absurd (let z : ⊥ = omega arith in z)
   at-past (x ∷ xs) (suc n) h = at-past xs n (omega arith)
 
-  at-getD : (xs : List A) (n : ℕ) (d : A) → n < length xs → Some (getD xs n d) ≡ at xs n
+  pub at-getD : (xs : List A) (n : ℕ) (d : A) → n < length xs → Some (getD xs n d) ≡ at xs n
   at-getD [] n d h = absurd (let z : ⊥ = omega arith in z)
   at-getD (x ∷ xs) zero d h = refl
   at-getD (x ∷ xs) (suc n) d h = at-getD xs n d (omega arith)

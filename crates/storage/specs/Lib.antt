@@ -3,3 +3,4 @@ pub mod Deltas
 pub mod Denials
 pub mod Entries
 pub mod Interners
+pub mod Tables

@@ -6,5 +6,8 @@ pub mod entries;
 pub mod exact;
 mod faults;
 pub mod interner;
+pub mod key;
 mod lists;
+mod rows;
 pub mod span;
+pub mod table;
