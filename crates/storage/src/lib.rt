@@ -1,3 +1,4 @@
 // The state of an open lookup, over memory that the caller brings.
 
+pub mod delta;
 pub mod denial;
