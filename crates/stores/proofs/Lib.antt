@@ -3,5 +3,8 @@ pub mod Alikes
 pub mod Asking
 pub mod Faults
 pub mod Held
+pub mod Keeping
 pub mod Meant
+pub mod Passing
 pub mod Signs
+pub mod Trimming

@@ -41,3 +41,10 @@ module _ (x y u v : ℤ) (a : x ≡ u) (b : y ≡ v) where
 
   pub bits-same : SFits w16 x → SFits w16 y → ofZ w16 x ≡ ofZ w16 y → same-signed u v ≡ true
   bits-same f g e = signed-equal u v (sym a ∙ same-bits x y f g e ∙ b)
+
+-- the bits of a number are 0 just where it is
+pub zero-bits : (z : ℤ) → SFits w16 z → ofZ w16 z ≡ 0 → z ≡ pos 0
+zero-bits z f e = sym (toZ-ofZ w16 z f) ∙ ap (toZ w16) e
+
+pub nonzero-bits : (z : ℤ) → (ofZ w16 z ≡ 0 → ⊥) → z ≡ pos 0 → ⊥
+nonzero-bits z h e = h (ap (ofZ w16) e)

@@ -4,9 +4,10 @@ use Prim.Native.Nat.{ℕ}
 use native.Mathlib.Omega.{arith}
 use Rattle.spec.specs.Entries.{delta-at}
 use Rattle.spec.specs.Stores.{Store, Laws}
-use Rattle.spec.specs.StoreModels.{Rows, flat, sharing}
+use Rattle.spec.specs.StoreModels.{Rows, flat, sharing, layered}
 use Rattle.stores.specs.declared.flat.FlatStore.{FlatStore}
 use Rattle.stores.specs.declared.sharing.SharingStore.{SharingStore}
+use Rattle.stores.specs.declared.trim.TrimLayer.{TrimLayer}
 use Rattle.stores.specs.Places.{rows-of}
 
 -- a store of type S that stands for one of type M has its meaning
@@ -48,3 +49,10 @@ sharing-store = through sharing-rows sharing
 
 pub sharing-store-laws : Laws sharing-store
 sharing-store-laws = through-laws sharing-rows sharing-laws
+
+-- a layer has the meaning of the store below, and passes up what it denies
+abbrev pub trim-layer : {S : Type 0} → Store S → Store (TrimLayer S)
+trim-layer m = through (λ s. s .below) (layered m)
+
+pub trim-layer-laws : {S : Type 0} {m : Store S} → Laws m → Laws (trim-layer m)
+trim-layer-laws h = record { known = λ s. h .known (s .below); ids = λ s. h .ids (s .below) }

@@ -5,3 +5,4 @@ pub mod lists;
 pub mod places;
 pub mod sharing;
 pub mod store;
+pub mod trim;
