@@ -5,16 +5,17 @@ use mathlib.Core.Bool.{Bool, true, false}
 use mathlib.Core.Logic.{inl, inr}
 use Prim.Native.Nat.{ℕ, suc, _+_, _-_, _<_, _≤_, min}
 use native.Mathlib.Omega.{arith}
+use lib.Dec.{eqb}
 use lib.IntN.{ℤ}
 use lib.ListN.{length, getD, take, drop, set}
 use Rattle.std.specs.declared.option.Option.{Option}
 use Rattle.std.specs.declared.option.Option.the-variants.{Some, None}
 use Rattle.std.specs.declared.result.Result.{Result}
-use Rattle.std.specs.declared.result.Result.the-variants.{Ok, Err}
-use Rattle.std.proofs.shelf.Lists.{length-map, length-take, length-set, getD-take, getD-map, map-set, take-more-set, take-all, at-drop-more, at-drop-all}
-use Rattle.std.proofs.shelf.Tests.{cases-lt}
+use Rattle.std.specs.declared.result.Result.the-variants.{Ok}
+use Rattle.std.proofs.shelf.Lists.{length-map, length-take, length-set, getD-map, map-set, take-map, take-more-set, take-all, at-drop-more, at-drop-all}
+use Rattle.std.proofs.shelf.Tests.{cases-lt, eqb-false}
 use Rattle.spec.specs.Lists.{place-of}
-use Rattle.spec.specs.Denials.{Word, Part, Denial, arises}
+use Rattle.spec.specs.Denials.{Denial}
 use Rattle.spec.specs.Entries.{Delta, delta-at, is-alike}
 use Rattle.spec.specs.StoreModels.{Rows, take-place, value}
 use Rattle.storage.specs.Deltas.{deltas-of}
@@ -32,12 +33,20 @@ rows-in ps used = record { rows = lists-in ps used; free = free-in ps used }
 pub count-is : (ps : List Place) (used : ℕ) → length (lists-in ps used) ≡ min (min used (length ps)) 65535
 count-is ps used = length-take (min used 65535) (map list-in ps) ∙ ap (min (min used 65535)) (length-map ps list-in) ∙ omega arith
 
-pub list-at : (ps : List Place) (used k : ℕ) → k < length (lists-in ps used) → getD (lists-in ps used) k [] ≡ list-in (getD ps k no-place)
-list-at ps used k h =
-    let n = count-is ps used in
-    let p : k < min used 65535 = omega arith in
-    let q : k < length ps = omega arith in
-    getD-take (min used 65535) (map list-in ps) k [] p ∙ getD-map list-in ps k no-place [] q
+-- the places that are lent hold the lists
+pub lent-lists : (ps : List Place) (used n : ℕ) → n ≡ min (min used (length ps)) 65535 → map list-in (take (n - 0) ps) ≡ lists-in ps used
+lent-lists ps used n e =
+    sym (take-map list-in (n - 0) ps)
+    ∙ elim (cases-lt (min used 65535) (length ps)) [
+      | inl h ↦ ap (λ k. take k (map list-in ps)) (omega arith)
+      | inr h ↦ all-of (n - 0) (omega arith) ∙ sym (all-of (min used 65535) h)
+    ]
+  where
+    all-of : (k : ℕ) → length ps ≤ k → take k (map list-in ps) ≡ map list-in ps
+    all-of k h = let m = length-map ps list-in in take-all k (map list-in ps) (omega arith)
+
+pub lent-count : (ps : List Place) (used n : ℕ) → n ≡ min (min used (length ps)) 65535 → length (take (n - 0) ps) ≡ length (lists-in ps used)
+lent-count ps used n e = length-take (n - 0) ps ∙ omega arith ∙ sym (count-is ps used)
 
 -- ---- the first that passes a test
 
@@ -87,8 +96,8 @@ module _ (ps : List Place) (id : ℕ) (p : Place) (l : List Delta) (h : id < len
       ap (take-place (rows-in ps id) l) one-less
       ∙ ap₂ {C = Rows × Result ℕ Denial} (λ (x : List (List Delta)) (k : ℕ). (record { rows = x; free = free-in (set ps id p) (id + 1) }, Ok k)) (sym one-more) n
 
-pub no-place-left : (ps : List Place) (id : ℕ) (l : List Delta) → free-in ps id ≡ 0 → take-place (rows-in ps id) l (free-in ps id) ≡ (rows-in ps id, Err (arises Word.store-full 0 Part.store))
-no-place-left ps id l h = ap (take-place (rows-in ps id) l) h
+pub room-left : (ps : List Place) (id : ℕ) → false ≡ eqb (free-in ps id) 0 → (id < length ps) × (id < 65535)
+room-left ps id h = let ne = eqb-false (free-in ps id) 0 (sym h) in (omega arith, omega arith)
 
 -- ---- what is read at an id
 
@@ -100,9 +109,12 @@ list-is p n long e =
       | inr h ↦ ap deltas-of (take-all (n - 0) (p .entries) (omega arith) ∙ sym (take-all (p .len) (p .entries) (omega arith)))
     ]
 
-module _ (ps : List Place) (used k : ℕ) (x : List Delta) (h : k < length (lists-in ps used)) (e : x ≡ list-in (getD ps k no-place)) where
-  pub alike-at : (l : List Delta) (t : Bool) → t ≡ is-alike l x → is-alike l (getD (lists-in ps used) k []) ≡ t
-  alike-at l t a = ap (is-alike l) (list-at ps used k h ∙ sym e) ∙ sym a
+module _ (ps : List Place) (k : ℕ) (x : List Delta) (h : k < length ps) (e : x ≡ list-in (getD ps k no-place)) where
+  list-at : getD (map list-in ps) k [] ≡ x
+  list-at = getD-map list-in ps k no-place [] h ∙ sym e
 
-  pub value-at : (r : ℕ) (z : ℤ) → z ≡ delta-at x r → z ≡ value (rows-in ps used) k r
-  value-at r z a = a ∙ ap (λ y. delta-at y r) (e ∙ sym (list-at ps used k h))
+  pub alike-at : (l : List Delta) (t : Bool) → t ≡ is-alike l x → is-alike l (getD (map list-in ps) k []) ≡ t
+  alike-at l t a = ap (is-alike l) list-at ∙ sym a
+
+  pub value-at : (s : Rows) → map list-in ps ≡ s .rows → (r : ℕ) (z : ℤ) → z ≡ delta-at x r → z ≡ value s k r
+  value-at s lists r z a = a ∙ ap (λ y. delta-at y r) (sym list-at ∙ ap (λ ls. getD ls k []) lists)

@@ -2,8 +2,9 @@
 // A list is sought by comparing it with each that is held: linear in what is held.
 
 ghost use mathlib.Core.Path.{_≡_};
-ghost use mathlib.Core.List.{[]};
+ghost use mathlib.Core.List.{[], map};
 ghost use Prim.Native.Nat.{ℕ, _≤_, min};
+ghost use lib.Dec.{eqb};
 ghost use lib.ListN.{length};
 ghost use Rattle.spec.specs.Entries.{is-alike};
 ghost use Rattle.spec.specs.Lists.{place-of};
@@ -82,22 +83,29 @@ impl<'a> Places<'a> {
         Places { places, used: 0 }
     }
 
-    // How many lists are held.
-    fn count(&self) -> usize
-        ensures value { λ r. ⌜ r ≡ length (rows-of (now (self .entry)) .rows) ⌝ }
-        ensures within { λ r. ⌜ r ≤ length (now (now (self .entry) .places)) ⌝ }
-        ensures most { λ r. ⌜ r ≤ 65535 ⌝ }
+    // The places that hold a list.
+    fn held(&self) -> &[Place]
+        ensures lists { λ r. ⌜ map list-in (now r) ≡ rows-of (now (self .entry)) .rows ⌝ }
+        ensures len { λ r. ⌜ length (now r) ≡ length (rows-of (now (self .entry)) .rows) ⌝ }
+        ensures most { λ r. ⌜ length (now r) ≤ 65535 ⌝ }
     {
-        self.used.min(self.places.len()).min(MOST_PLACES)
+        let n = self.used.min(self.places.len()).min(MOST_PLACES);
+        &self.places[0..n]
+    }
+
+    fn is_full(&self) -> bool
+        ensures { λ r. ⌜ r ≡ eqb (rows-of (now (self .entry)) .free) 0 ⌝ }
+    {
+        self.used >= self.places.len() || self.used >= MOST_PLACES
     }
 
     // The lowest id that holds a list alike to this one.
     pub fn find(&self, list: &[Delta]) -> Option<u32>
         ensures { λ r. ⌜ r ≡ place-of (is-alike (deltas-of (now (list .entry)))) 0 (rows-of (now (self .entry)) .rows) ⌝ }
     {
-        for k in 0..self.count() {
-            let place = self.places[k];
-            if alike(list, place.list()) {
+        let held = self.held();
+        for k in 0..held.len() {
+            if alike(list, held[k].list()) {
                 return Some(k as u32);
             }
         }
@@ -108,12 +116,12 @@ impl<'a> Places<'a> {
     pub fn delta(&self, id: u32, region: u16) -> Result<i16, Denial>
         ensures { λ r. ⌜ Asked flat (rows-of (now (self .entry))) id region (told r) ⌝ }
     {
+        let held = self.held();
         let k = id as usize;
-        if k >= self.count() {
+        if k >= held.len() {
             return Err(Denial::new(Word::UnknownId, k, Part::Store));
         }
-        let place = self.places[k];
-        Ok(delta_at(place.list(), region))
+        Ok(delta_at(held[k].list(), region))
     }
 
     // Puts the list into the next place.
@@ -121,10 +129,10 @@ impl<'a> Places<'a> {
         requires { ⌜ length (now list) ≤ 64 ⌝ }
         ensures { λ r. ⌜ take-place (rows-of (now (self .entry))) (deltas-of (now (list .entry))) (rows-of (now (self .entry)) .free) ≡ (rows-of (now (self .exit)), told r) ⌝ }
     {
-        let id = self.used;
-        if id >= self.places.len() || id >= MOST_PLACES {
+        if self.is_full() {
             return Err(Denial::new(Word::StoreFull, 0, Part::Store));
         }
+        let id = self.used;
         self.places[id] = Place::of(list);
         self.used = id + 1;
         Ok(id as u32)

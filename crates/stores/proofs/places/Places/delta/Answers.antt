@@ -1,21 +1,21 @@
 use mathlib.Core.Path.{_∙_}
-use Prim.Native.Nat.{_<_}
 use native.Mathlib.Omega.{arith}
 use borrow.Author.Needs.{needs}
-use lib.ListN.{length}
 use mir.Val.{SFits}
 use mir.Syntax.{w16}
 use Rattle.std.proofs.shelf.Signed.{toZ-ofZ}
-use Rattle.stores.specs.Places.{lists-in}
+use Rattle.stores.specs.Places.{rows-of}
 use Rattle.stores.proofs.Held.{value-at}
 use Rattle.stores.proofs.places.Places.delta.Needs as need
 
+pub returns-then-k-held : need.returns-then-k-held
+returns-then-k-held c = ((λ h. omega (arith, h .0, c .if-k-held .taken, c .held-held .ensures .len)), c .new .ensures)
+
 pub returns : need.returns
 returns c =
-    let ps = c .args .self .now .places .now in
-    let used = c .args .self .now .used in
-    let low : c .args .id < length (lists-in ps used) = omega (arith, c .if-k-count .left, c .count .ensures .value) in
     let f : SFits w16 (c .delta-at .result) = search needs in (
-      (low, omega (arith, c .if-k-count .left, c .count .ensures .most)),
-      toZ-ofZ w16 _ f ∙ value-at ps used (c .args .id) _ low (c .list .ensures) (c .args .region) (c .delta-at .result) (c .delta-at .ensures),
+      (omega (arith, c .if-k-held .left, c .held-held .ensures .len), omega (arith, c .if-k-held .left, c .held-held .ensures .most)),
+      toZ-ofZ w16 _ f
+          ∙ value-at (c .held-held .result .now) (c .args .id) _ (c .if-k-held .left) (c .list .ensures) (rows-of (c .args .self .now)) (c .held-held .ensures .lists) (c .args .region) (c .delta-at .result)
+          (c .delta-at .ensures),
     )
