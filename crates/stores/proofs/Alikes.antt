@@ -8,6 +8,7 @@ use native.Mathlib.Omega.{arith}
 use lib.Dec.{eqb}
 use lib.IntN.{ℤ, pos}
 use lib.ListN.{length, getD, drop}
+use Rattle.std.specs.Orderings.{Decides}
 use Rattle.std.proofs.shelf.Lists.{at-drop-more, at-drop-all}
 use Rattle.std.proofs.shelf.Tests.{and-parts, cases-eq}
 use Rattle.std.proofs.shelf.Ways.{tells}
@@ -91,3 +92,6 @@ everywhere p (k ∷ ks) h = ap (λ t. t && all p ks) (h k) ∙ everywhere p ks h
 
 pub alike-is : (xs ys : List entries.Delta) → Alike xs ys → is-alike xs ys ≡ true
 alike-is xs ys h = everywhere (λ k. same-signed (delta-at xs k) (delta-at ys k)) (regions xs ++ regions ys) (λ k. signed-equal (delta-at xs k) (delta-at ys k) (h k))
+
+pub is-alike-decides : (xs ys : List entries.Delta) (t : Bool) → t ≡ is-alike xs ys → Decides t (Alike xs ys)
+is-alike-decides xs ys t e = (λ h. is-alike-true xs ys (sym e ∙ h), λ h. e ∙ alike-is xs ys h)

@@ -7,4 +7,5 @@ pub mod Keeping
 pub mod Meant
 pub mod Passing
 pub mod Signs
+pub mod Staying
 pub mod Trimming

@@ -15,6 +15,7 @@ use Rattle.std.proofs.shelf.Ways.{tells}
 use Rattle.spec.specs.Fields.{same-signed}
 use Rattle.spec.specs.Entries.{Delta, delta-at, deltas-fault, unsorted, not-rising, regions, lower}
 use Rattle.spec.specs.StoreModels.{trimmed}
+use Rattle.stores.specs.Laws.{Trimming-keeps}
 use Rattle.stores.proofs.Faults.{some-none}
 use Rattle.stores.proofs.Signs.{signed-same}
 
@@ -130,3 +131,6 @@ trimmed-good (d ∷ ds) h =
 pub trimmed-at : (ds : List Delta) (r : ℕ) → deltas-fault ds ≡ None → delta-at (trimmed ds) r ≡ delta-at ds r
 trimmed-at [] r h = refl
 trimmed-at (d ∷ ds) r h = let g = good (d ∷ ds) h in first-at d ds r (same-at ds 1 (d .region) r (g .0)) (absent ds 1 (d .region) r (g .0))
+
+pub trimming-keeps : Trimming-keeps
+trimming-keeps ds h = (trimmed-good ds h, λ r. trimmed-at ds r h)

@@ -3,7 +3,8 @@
 ghost use mathlib.Core.Path.{_≡_};
 ghost use Rattle.spec.specs.Lists.{all};
 ghost use Rattle.spec.specs.Fields.{same-signed};
-ghost use Rattle.spec.specs.Entries.{deltas-fault, delta-at, regions, is-alike};
+ghost use Rattle.spec.specs.Entries.{deltas-fault, delta-at, regions, Alike, is-alike};
+ghost use Rattle.std.specs.Orderings.{Decides};
 ghost use Rattle.storage.specs.Deltas.{deltas-of};
 use storage::delta::Delta;
 
@@ -51,7 +52,8 @@ fn same_at(a: &[Delta], b: &[Delta], places: &[Delta]) -> bool
 
 // Whether the lists have the same delta at every region.
 pub fn alike(a: &[Delta], b: &[Delta]) -> bool
-    ensures { λ r. ⌜ r ≡ is-alike (deltas-of (now (a .entry))) (deltas-of (now (b .entry))) ⌝ }
+    ensures value { λ r. ⌜ r ≡ is-alike (deltas-of (now (a .entry))) (deltas-of (now (b .entry))) ⌝ }
+    ensures decides { λ r. ⌜ Decides r (Alike (deltas-of (now (a .entry))) (deltas-of (now (b .entry)))) ⌝ }
 {
     same_at(a, b, a) && same_at(a, b, b)
 }

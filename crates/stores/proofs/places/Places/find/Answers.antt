@@ -21,7 +21,7 @@ returns-then-alike c =
     let l = deltas-of (c .args .list .now) in
     let k = c .loop-k .k in
     found-here (is-alike l) (map list-in ps) k (c .loop-k .inv) (omega (arith, length-map ps list-in))
-    (alike-at ps k _ (c .loop-k-test .taken) (c .list .ensures) l _ (c .if-alike .ensures tt))
+    (alike-at ps k _ (c .loop-k-test .taken) (c .list .ensures) l _ (c .if-alike .ensures tt .value))
     ∙ ap (place-of (is-alike l) 0) (c .held-held .ensures .lists)
 
 pub loop-k-again : need.loop-k-again
@@ -30,7 +30,7 @@ loop-k-again c =
     let l = deltas-of (c .args .list .now) in
     let k = c .loop-k .k in
     found-later (is-alike l) (map list-in ps) k (c .loop-k .inv) (omega (arith, length-map ps list-in))
-    (alike-at ps k _ (c .loop-k-test .taken) (c .list .ensures) l _ (c .if-alike .ensures tt))
+    (alike-at ps k _ (c .loop-k-test .taken) (c .list .ensures) l _ (c .if-alike .ensures tt .value))
 
 pub returns : need.returns
 returns c =
