@@ -17,7 +17,7 @@ use Rattle.std.proofs.shelf.Tests.{cases-lt, eqb-false}
 use Rattle.spec.specs.Lists.{place-of}
 use Rattle.spec.specs.Denials.{Denial}
 use Rattle.spec.specs.Entries.{Delta, delta-at, is-alike}
-use Rattle.spec.specs.StoreModels.{Rows, take-place, value}
+use Rattle.spec.specs.StoreModels.{Rows, take-place}
 use Rattle.storage.specs.Deltas.{deltas-of}
 use Rattle.stores.specs.declared.places.Place.{Place}
 use Rattle.stores.specs.Places.{list-in, lists-in, free-in}
@@ -109,12 +109,12 @@ list-is p n long e =
       | inr h ↦ ap deltas-of (take-all (n - 0) (p .entries) (omega arith) ∙ sym (take-all (p .len) (p .entries) (omega arith)))
     ]
 
-module _ (ps : List Place) (k : ℕ) (x : List Delta) (h : k < length ps) (e : x ≡ list-in (getD ps k no-place)) where
-  list-at : getD (map list-in ps) k [] ≡ x
-  list-at = getD-map list-in ps k no-place [] h ∙ sym e
+module _ (ps : List Place) (ls : List (List Delta)) (lists : map list-in ps ≡ ls) (k : ℕ) (x : List Delta) (h : k < length ps) (e : x ≡ list-in (getD ps k no-place)) where
+  list-at : getD ls k [] ≡ x
+  list-at = ap (λ ls. getD ls k []) (sym lists) ∙ getD-map list-in ps k no-place [] h ∙ sym e
 
-  pub alike-at : (l : List Delta) (t : Bool) → t ≡ is-alike l x → is-alike l (getD (map list-in ps) k []) ≡ t
+  pub alike-at : (l : List Delta) (t : Bool) → t ≡ is-alike l x → is-alike l (getD ls k []) ≡ t
   alike-at l t a = ap (is-alike l) list-at ∙ sym a
 
-  pub value-at : (s : Rows) → map list-in ps ≡ s .rows → (r : ℕ) (z : ℤ) → z ≡ delta-at x r → z ≡ value s k r
-  value-at s lists r z a = a ∙ ap (λ y. delta-at y r) (sym list-at ∙ ap (λ ls. getD ls k []) lists)
+  pub value-at : (r : ℕ) (z : ℤ) → z ≡ delta-at x r → z ≡ delta-at (getD ls k []) r
+  value-at r z a = a ∙ ap (λ y. delta-at y r) (sym list-at)

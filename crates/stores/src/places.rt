@@ -27,8 +27,8 @@ const MOST_PLACES: usize = 65_535;
 // Room for one list: the first `len` of its entries.
 #[derive(Clone, Copy)]
 pub struct Place {
-    pub len: usize,
-    pub entries: [Delta; 64],
+    len: usize,
+    entries: [Delta; MOST],
 }
 
 impl Place {
@@ -41,7 +41,7 @@ impl Place {
             entries: [Delta {
                 region: 0,
                 delta: 0,
-            }; 64],
+            }; MOST],
         }
     }
 
@@ -52,7 +52,7 @@ impl Place {
         let mut entries = [Delta {
             region: 0,
             delta: 0,
-        }; 64];
+        }; MOST];
         for i in 0..list.len() {
             entries[i] = list[i];
         }
@@ -70,8 +70,9 @@ impl Place {
     }
 }
 
+// The first `used` places hold a list. What it counts past the places, or past the most, is not held.
 #[derive(Drop)]
-pub struct Places<'a> {
+pub(crate) struct Places<'a> {
     places: &'a mut [Place],
     used: usize,
 }
@@ -93,7 +94,7 @@ impl<'a> Places<'a> {
         &self.places[0..n]
     }
 
-    fn is_full(&self) -> bool
+    pub fn is_full(&self) -> bool
         ensures { λ r. ⌜ r ≡ eqb (rows-of (now (self .entry)) .free) 0 ⌝ }
     {
         self.used >= self.places.len() || self.used >= MOST_PLACES
@@ -103,9 +104,8 @@ impl<'a> Places<'a> {
     pub fn find(&self, list: &[Delta]) -> Option<u32>
         ensures { λ r. ⌜ r ≡ place-of (is-alike (deltas-of (now (list .entry)))) 0 (rows-of (now (self .entry)) .rows) ⌝ }
     {
-        let held = self.held();
-        for k in 0..held.len() {
-            if alike(list, held[k].list()) {
+        for (k, place) in self.held().iter().enumerate() {
+            if alike(list, place.list()) {
                 return Some(k as u32);
             }
         }

@@ -3,9 +3,11 @@
 ghost use mathlib.Core.Path.{_≡_};
 ghost use Prim.Native.Nat.{ℕ, _≤_};
 ghost use lib.ListN.{length, take};
+ghost use Rattle.spec.specs.Stores.{Fresh};
 ghost use Rattle.spec.specs.StoreModels.{trimmed};
 ghost use Rattle.storage.specs.Deltas.{deltas-of};
 ghost use Rattle.stores.specs.Meanings.{trim-layer, trim-layer-laws};
+use crate::lists::MOST;
 use crate::lists::fault;
 use crate::store::VariationStore;
 use storage::delta::Delta;
@@ -18,16 +20,18 @@ pub struct TrimLayer<S> {
     below: S,
 }
 
-impl<S> TrimLayer<S> {
+impl<S: VariationStore> TrimLayer<S> {
+    // A layer over a new store is as new.
     pub fn new(below: S) -> TrimLayer<S>
-        ensures { λ r. ⌜ r .below ≡ below ⌝ }
+        ensures below { λ r. ⌜ r .below ≡ below ⌝ }
+        ensures fresh { λ r. ⌜ ((places : ℕ) → Fresh (S·VariationStore .store) below places → Fresh (trim-layer (S·VariationStore .store)) r places) ⌝ }
     {
         TrimLayer { below }
     }
 }
 
 // Copies the deltas that are not 0 to the front of `room`, and answers how many there are.
-fn trim(list: &[Delta], room: &mut [Delta; 64]) -> usize
+fn trim(list: &[Delta], room: &mut [Delta; MOST]) -> usize
     requires { ⌜ length (now list) ≤ 64 ⌝ }
     ensures within { λ n. ⌜ n ≤ 64 ⌝ }
     ensures items { λ n. ⌜ deltas-of (take n (now (room .exit))) ≡ trimmed (deltas-of (now (list .entry))) ⌝ }
@@ -55,7 +59,7 @@ pub impl<S: VariationStore> VariationStore for TrimLayer<S> as TrimVariationStor
         let mut room = [Delta {
             region: 0,
             delta: 0,
-        }; 64];
+        }; MOST];
         let n = trim(list, &mut room);
         match self.below.add(&room[0..n]) {
             Ok(id) => Ok(id),
@@ -66,7 +70,7 @@ pub impl<S: VariationStore> VariationStore for TrimLayer<S> as TrimVariationStor
     fn delta(&self, id: u32, region: u16) -> Result<i16, Denial> {
         match self.below.delta(id, region) {
             Ok(delta) => Ok(delta),
-            Err(denial) => Err(denial.passed()),
+            Err(unknown) => Err(unknown.passed()),
         }
     }
 }

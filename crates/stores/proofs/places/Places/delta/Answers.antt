@@ -13,9 +13,9 @@ returns-then-k-held c = ((λ h. omega (arith, h .0, c .if-k-held .taken, c .held
 
 pub returns : need.returns
 returns c =
+    let held = c .held-held .ensures in
     let f : SFits w16 (c .delta-at .result) = search needs in (
-      (omega (arith, c .if-k-held .left, c .held-held .ensures .len), omega (arith, c .if-k-held .left, c .held-held .ensures .most)),
+      (omega (arith, c .if-k-held .left, held .len), omega (arith, c .if-k-held .left, held .most)),
       toZ-ofZ w16 _ f
-          ∙ value-at (c .held-held .result .now) (c .args .id) _ (c .if-k-held .left) (c .list .ensures) (rows-of (c .args .self .now)) (c .held-held .ensures .lists) (c .args .region) (c .delta-at .result)
-          (c .delta-at .ensures),
+          ∙ value-at (c .held-held .result .now) (rows-of (c .args .self .now) .rows) (held .lists) (c .args .id) _ (c .if-k-held .left) (c .list .ensures) (c .args .region) (c .delta-at .result) (c .delta-at .ensures),
     )
