@@ -1,9 +1,9 @@
 -- The models of the flat and the sharing store meet the meaning of a store.
-use mathlib.Core.Path.{_≡_, refl, sym, ap, subst, _∙_}
+use mathlib.Core.Path.{_≡_, refl, sym, ap, subst}
 use mathlib.Core.Bool.{Bool, true, false}
 use mathlib.Core.List.{List, [], _∷_, _++_}
-use mathlib.Core.Logic.{_⊎_, inl, inr}
-use Prim.Native.Nat.{ℕ, zero, suc, _+_, _-_, _<_, _≤_, min}
+use mathlib.Core.Logic.{inl, inr}
+use Prim.Native.Nat.{ℕ, zero, suc, _+_, _<_}
 use native.Mathlib.Omega.{arith}
 use native.Mathlib.Nat.{lt-irrefl}
 use lib.ListN.{length, getD}
@@ -16,8 +16,8 @@ use Rattle.std.proofs.shelf.Tests.{cases-lt, both-ways}
 use Rattle.spec.specs.Lists.{place-of}
 use Rattle.spec.specs.Denials.{Word, Part, Denial, arises}
 use Rattle.spec.specs.Entries.{Delta, delta-at, deltas-fault, is-alike}
-use Rattle.spec.specs.Stores.{Store, Added, Keeps, Known, New, Unchanged}
-use Rattle.spec.specs.StoreModels.{Rows, Held, Within, value, flat, sharing, take-place, flat-add, sharing-add, Flat-adds, Sharing-adds}
+use Rattle.spec.specs.Stores.{Store, Added, Keeps, Known, Unchanged}
+use Rattle.spec.specs.StoreModels.{Rows, Held, Within, value, flat, sharing, take-place, Flat-adds, Sharing-adds}
 use Rattle.stores.proofs.Alikes.{is-alike-true, alike-is}
 use Rattle.stores.proofs.Faults.{some-none}
 

@@ -5,8 +5,7 @@ use mathlib.Core.List.{List, [], _∷_, _++_}
 use mathlib.Core.Logic.{_⊎_, inl, inr}
 use Prim.Native.Nat.{ℕ, _+_, _<_, _≤_}
 use native.Mathlib.Omega.{arith}
-use lib.Dec.{eqb}
-use lib.IntN.{ℤ, pos}
+use lib.IntN.{pos}
 use lib.ListN.{length, getD, drop}
 use Rattle.std.specs.Orderings.{Decides}
 use Rattle.std.proofs.shelf.Lists.{at-drop-more, at-drop-all}
@@ -17,7 +16,7 @@ use Rattle.spec.specs.Fields.{same-signed}
 use Rattle.spec.specs.Entries as entries
 use Rattle.spec.specs.Entries.{delta-at, regions, Alike, is-alike}
 use Rattle.storage.specs.declared.delta.Delta.{Delta}
-use Rattle.storage.specs.Deltas.{delta-of, deltas-of}
+use Rattle.storage.specs.Deltas.{deltas-of}
 use Rattle.stores.proofs.Faults.{no-delta}
 use Rattle.stores.proofs.Signs.{signed-equal, signed-same}
 

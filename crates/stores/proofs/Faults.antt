@@ -92,15 +92,18 @@ fault-none l i h p =
     sym (ap (λ o. lower o (ltb 64 (length (deltas-of l)))) (sym (p .1) ∙ at-drop-all (λ x. not-rising i (region-at l (i - 1)) (regions (deltas-of x))) l i h)
     ∙ ap (lower None) (long l false (le-ltb 64 (length l) (omega (arith, p .0)))))
 
-few : (ds : List entries.Delta) → deltas-fault ds ≡ None → length ds ≤ 64
-few ds h = go (unsorted (regions ds)) (ltb 64 (length ds)) refl h
+-- what a good list is
+pub good : (ds : List entries.Delta) → deltas-fault ds ≡ None → (unsorted (regions ds) ≡ None) × (length ds ≤ 64)
+good ds h = go (unsorted (regions ds)) refl (ltb 64 (length ds)) refl h
   where
-    go : (o : Option ℕ) (t : Bool) → ltb 64 (length ds) ≡ t → lower o t ≡ None → length ds ≤ 64
-    go None true e h = some-none 64 h
-    go None false e h = ltb-false 64 (length ds) e
-    go (Some i) true e h = some-none (min i 64) h
-    go (Some i) false e h = some-none i h
+    go : (o : Option ℕ) → unsorted (regions ds) ≡ o → (t : Bool) → ltb 64 (length ds) ≡ t → lower o t ≡ None → (unsorted (regions ds) ≡ None) × (length ds ≤ 64)
+    go None p true q h = some-none 64 h
+    go None p false q h = (p, ltb-false 64 (length ds) q)
+    go (Some i) p true q h = some-none (min i 64) h
+    go (Some i) p false q h = some-none i h
 
--- a good list has at most 64 entries
+pub good-back : (ds : List entries.Delta) → unsorted (regions ds) ≡ None → length ds ≤ 64 → deltas-fault ds ≡ None
+good-back ds p l = ap (λ o. lower o (ltb 64 (length ds))) p ∙ ap (lower None) (le-ltb 64 (length ds) l)
+
 pub few-entries : (l : List Delta) → None ≡ deltas-fault (deltas-of l) → length l ≤ 64
-few-entries l h = let n = few (deltas-of l) (sym h) in omega (arith, length-map l delta-of)
+few-entries l h = let n = good (deltas-of l) (sym h) .1 in omega (arith, length-map l delta-of)

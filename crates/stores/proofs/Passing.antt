@@ -1,16 +1,15 @@
 -- A trim layer has the meaning of the store below.
-use mathlib.Core.Path.{_≡_, refl, sym, ap, subst, _∙_}
-use mathlib.Core.List.{List, [], _∷_, _++_}
-use mathlib.Core.Logic.{_⊎_, inl, inr}
-use Prim.Native.Nat.{ℕ, _+_, min}
+use mathlib.Core.Path.{_≡_, sym, ap, subst, _∙_}
+use mathlib.Core.List.{List}
+use mathlib.Core.Logic.{inl, inr}
+use Prim.Native.Nat.{ℕ, _+_}
 use native.Mathlib.Omega.{arith}
-use lib.IntN.{ℤ}
-use Rattle.std.specs.declared.option.Option.the-variants.{Some, None}
+use Rattle.std.specs.declared.option.Option.the-variants.{None}
 use Rattle.std.specs.declared.result.Result.{Result}
 use Rattle.std.specs.declared.result.Result.the-variants.{Ok, Err}
 use Rattle.spec.specs.Denials.{Word, Part, Denial, arises, passed, passed-by}
 use Rattle.spec.specs.Entries.{Delta, deltas-fault}
-use Rattle.spec.specs.Stores.{Store, Added, New}
+use Rattle.spec.specs.Stores.{Store, Added}
 use Rattle.spec.specs.StoreModels.{trimmed, layered, passed-on, Trims}
 use Rattle.stores.specs.declared.trim.TrimLayer.{TrimLayer}
 use Rattle.stores.specs.Meanings.{trim-layer}

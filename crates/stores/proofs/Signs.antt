@@ -1,9 +1,6 @@
 -- Signed numbers by their bits, and the test whether two are the same.
 use mathlib.Core.Path.{_≡_, refl, sym, ap, subst, _∙_}
 use mathlib.Core.Bool.{Bool, true, false}
-use Prim.Native.Nat.{ℕ}
-use native.Mathlib.Omega.{arith}
-use lib.Dec.{eqb}
 use lib.IntN.{ℤ, pos, negsuc}
 use mir.Val.{SFits, toZ, ofZ}
 use mir.Syntax.{w16}

@@ -1,11 +1,11 @@
 -- Ids keep their deltas as lists are added.
-use mathlib.Core.Path.{_≡_, refl, sym, subst, _∙_}
+use mathlib.Core.Path.{refl, sym, subst, _∙_}
 use mathlib.Core.List.{List, [], _∷_}
-use mathlib.Core.Logic.{_⊎_, inl, inr}
+use mathlib.Core.Logic.{inl, inr}
 use Prim.Native.Nat.{ℕ}
 use Rattle.std.specs.declared.result.Result.the-variants.{Ok}
 use Rattle.spec.specs.Entries.{Delta}
-use Rattle.spec.specs.Stores.{Store, Added, AddedAll, Keeps}
+use Rattle.spec.specs.Stores.{Store, Added, Keeps}
 use Rattle.stores.specs.Laws.{Ids-stay}
 
 module _ {S : Type 0} (m : Store S) where

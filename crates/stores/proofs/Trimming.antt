@@ -1,22 +1,21 @@
 -- Without its zero deltas a good list stays good, and every region keeps its delta.
-use mathlib.Core.Path.{_≡_, refl, sym, ap, subst, _∙_}
+use mathlib.Core.Path.{_≡_, refl, ap, _∙_}
 use mathlib.Core.Bool.{Bool, true, false, not}
-use mathlib.Core.List.{List, [], _∷_, _++_}
-use mathlib.Core.Logic.{_⊎_, inl, inr}
-use Prim.Native.Nat.{ℕ, suc, _+_, _-_, _<_, _≤_, min}
+use mathlib.Core.List.{List, [], _∷_}
+use Prim.Native.Nat.{ℕ, suc, _+_, _<_, _≤_}
 use native.Mathlib.Omega.{arith}
-use lib.Dec.{leb, ltb}
+use lib.Dec.{leb}
 use lib.ListN.{length}
-use lib.IntN.{ℤ, pos}
+use lib.IntN.{pos}
 use Rattle.std.specs.declared.option.Option.{Option}
 use Rattle.std.specs.declared.option.Option.the-variants.{Some, None}
-use Rattle.std.proofs.shelf.Tests.{ltb-false, le-ltb, leb-false}
+use Rattle.std.proofs.shelf.Tests.{leb-false}
 use Rattle.std.proofs.shelf.Ways.{tells}
 use Rattle.spec.specs.Fields.{same-signed}
-use Rattle.spec.specs.Entries.{Delta, delta-at, deltas-fault, unsorted, not-rising, regions, lower}
+use Rattle.spec.specs.Entries.{Delta, delta-at, deltas-fault, unsorted, not-rising, regions}
 use Rattle.spec.specs.StoreModels.{trimmed}
 use Rattle.stores.specs.Laws.{Trimming-keeps}
-use Rattle.stores.proofs.Faults.{some-none}
+use Rattle.stores.proofs.Faults.{some-none, good, good-back}
 use Rattle.stores.proofs.Signs.{signed-same}
 
 -- the deltas that are left when the first is kept or not
@@ -93,19 +92,6 @@ fewer (d ∷ ds) = let e = ap length (first d ds) in let n = go (same-signed (d 
     go : (z : Bool) → length (trimmed ds) ≤ length ds → length (with-first z d (trimmed ds)) ≤ suc (length ds)
     go true a = omega arith
     go false a = omega arith
-
--- what a good list is
-good : (ds : List Delta) → deltas-fault ds ≡ None → (unsorted (regions ds) ≡ None) × (length ds ≤ 64)
-good ds h = go (unsorted (regions ds)) refl (ltb 64 (length ds)) refl h
-  where
-    go : (o : Option ℕ) → unsorted (regions ds) ≡ o → (t : Bool) → ltb 64 (length ds) ≡ t → lower o t ≡ None → (unsorted (regions ds) ≡ None) × (length ds ≤ 64)
-    go None p true q h = some-none 64 h
-    go None p false q h = (p, ltb-false 64 (length ds) q)
-    go (Some i) p true q h = some-none (min i 64) h
-    go (Some i) p false q h = some-none i h
-
-good-back : (ds : List Delta) → unsorted (regions ds) ≡ None → length ds ≤ 64 → deltas-fault ds ≡ None
-good-back ds p l = ap (λ o. lower o (ltb 64 (length ds))) p ∙ ap (lower None) (le-ltb 64 (length ds) l)
 
 sorted-from : (c : ℕ) (xs : List ℕ) → not-rising 0 c xs ≡ None → unsorted xs ≡ None
 sorted-from c [] h = refl

@@ -1,6 +1,5 @@
 -- The meaning of each store: that of the rows which it stands for.
-use mathlib.Core.Path.{_≡_, ap}
-use Prim.Native.Nat.{ℕ}
+use mathlib.Core.Path.{ap}
 use native.Mathlib.Omega.{arith}
 use Rattle.spec.specs.Entries.{delta-at}
 use Rattle.spec.specs.Stores.{Store, Laws}

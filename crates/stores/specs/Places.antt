@@ -1,5 +1,5 @@
 -- Which rows of the definitions' models brought places stand for, in any state.
-use mathlib.Core.List.{List, [], map}
+use mathlib.Core.List.{List, map}
 use Prim.Native.Nat.{ℕ, _-_, min}
 use lib.ListN.{length, take}
 use denote.Ref.{now}

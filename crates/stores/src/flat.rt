@@ -1,6 +1,8 @@
 // A store that recognises no list: each list that is added gets an id of its own.
 
 ghost use mathlib.Core.Path.{_≡_};
+ghost use mathlib.Core.List.{[]};
+ghost use Prim.Native.Nat.{min};
 ghost use lib.ListN.{length};
 ghost use Rattle.spec.specs.Stores.{Added, Fresh};
 ghost use Rattle.spec.specs.StoreModels.{flat-add};
@@ -23,7 +25,8 @@ pub struct FlatStore<'a> {
 
 impl<'a> FlatStore<'a> {
     pub fn new(places: &'a mut [Place]) -> FlatStore<'a>
-        ensures { λ r. ⌜ Fresh flat-store r (length (now (places .entry))) ⌝ }
+        ensures fresh { λ r. ⌜ Fresh flat-store r (length (now (places .entry))) ⌝ }
+        ensures rows { λ r. ⌜ flat-rows r ≡ record { rows = []; free = min (length (now (places .entry))) 65535 } ⌝ }
     {
         FlatStore {
             lists: Places::new(places),

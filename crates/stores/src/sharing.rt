@@ -1,6 +1,8 @@
 // A store that recognises every list it holds: lists that are alike share the lowest id.
 
 ghost use mathlib.Core.Path.{_≡_};
+ghost use mathlib.Core.List.{[]};
+ghost use Prim.Native.Nat.{min};
 ghost use lib.ListN.{length};
 ghost use Rattle.spec.specs.Stores.{Added, Fresh};
 ghost use Rattle.spec.specs.StoreModels.{sharing-add};
@@ -23,7 +25,8 @@ pub struct SharingStore<'a> {
 
 impl<'a> SharingStore<'a> {
     pub fn new(places: &'a mut [Place]) -> SharingStore<'a>
-        ensures { λ r. ⌜ Fresh sharing-store r (length (now (places .entry))) ⌝ }
+        ensures fresh { λ r. ⌜ Fresh sharing-store r (length (now (places .entry))) ⌝ }
+        ensures rows { λ r. ⌜ sharing-rows r ≡ record { rows = []; free = min (length (now (places .entry))) 65535 } ⌝ }
     {
         SharingStore {
             lists: Places::new(places),

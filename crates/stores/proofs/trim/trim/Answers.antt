@@ -1,14 +1,11 @@
-use mathlib.Core.Path.{_≡_, sym, ap, ap₂, subst, _∙_}
-use mathlib.Core.List.{List}
-use Prim.Native.Nat.{ℕ, _+_, _<_}
+use Prim.Native.Nat.{_+_, _<_}
 use native.Mathlib.Omega.{arith}
 use borrow.Author.Needs.{needs}
-use lib.IntN.{pos}
-use lib.ListN.{getD, length, set}
+use lib.ListN.{getD, length}
 use mir.Val.{SFits}
 use mir.Syntax.{w16}
 use Rattle.stores.proofs.Faults.{no-delta}
-use Rattle.stores.proofs.Keeping.{Keeping, kept-more, dropped-more, kept-all, kept-as}
+use Rattle.stores.proofs.Keeping.{kept-more, dropped-more, kept-all, kept-as}
 use Rattle.stores.proofs.Signs.{zero-bits, nonzero-bits}
 use Rattle.stores.proofs.trim.trim.Needs as need
 use Rattle.stores.proofs.trim.trim.Needs.{then-d-ne0, else-d-ne0}

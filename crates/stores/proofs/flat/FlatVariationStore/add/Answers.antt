@@ -1,5 +1,4 @@
-use mathlib.Core.Path.{_≡_, _∙_}
-use Rattle.spec.specs.StoreModels.{flat-add}
+use mathlib.Core.Path.{_∙_}
 use Rattle.storage.specs.Deltas.{deltas-of}
 use Rattle.stores.specs.declared.flat.FlatStore.{FlatStore}
 use Rattle.stores.specs.Answers.{told}

@@ -1,6 +1,5 @@
 use mathlib.Core.Path.{_∙_, ap}
 use Prim.Native.Nat.{min}
-use native.Mathlib.Omega.{arith}
 use borrow.Author.Needs.{needs}
 use Rattle.stores.proofs.Held.{lent-lists, lent-count}
 use Rattle.stores.proofs.places.Places.held.Needs as need

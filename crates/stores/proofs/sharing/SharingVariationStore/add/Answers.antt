@@ -1,4 +1,4 @@
-use mathlib.Core.Path.{_≡_, _∙_}
+use mathlib.Core.Path.{_∙_}
 use Rattle.std.specs.declared.result.Result.the-variants.{Ok}
 use Rattle.storage.specs.Deltas.{deltas-of}
 use Rattle.stores.specs.declared.sharing.SharingStore.{SharingStore}
