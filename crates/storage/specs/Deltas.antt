@@ -11,3 +11,6 @@ delta-of d = record { region = d .region; delta = d .delta }
 
 abbrev pub same-delta : code-delta.Delta → code-delta.Delta → Bool
 same-delta x y = eqb (x .region) (y .region) && same-signed (x .delta) (y .delta)
+
+abbrev pub deltas-of : List code-delta.Delta → List Delta
+deltas-of ds = map delta-of ds
