@@ -1,4 +1,5 @@
 // `gposc check RULES`: reads a rule file, and says what it has.
+use crate::enter::enter_all;
 use rulefile::EntryKind;
 use rulefile::Error;
 use rulefile::RuleFile;
@@ -26,7 +27,7 @@ pub fn check_file(rt: &LibcRuntime, path: &str) -> Result<(), AnyError> {
         Ok(file) => {
             print_counts(rt, &file)?;
             print_names(rt, &file)?;
-            Ok(())
+            enter_all(rt, &file)
         }
         Err(Error::Memory) => {
             eprintln!(rt, "{path}: there is not enough memory for this file")?;

@@ -1,5 +1,6 @@
 // The command `gposc`: checks rule files.
 mod check;
+mod enter;
 
 use check::check_file;
 use check::print_usage;
