@@ -56,7 +56,7 @@ impl<'a, T: Exact, H: Exact> Interner<'a, T, H> {
     pub fn len(&self) -> usize
         ensures { λ r. ⌜ r ≡ length (contents (now (self .entry))) ⌝ }
     {
-        self.used.min(self.table.len())
+        self.table.len().min(self.used)
     }
 
     // The list of a number, and what stands beside it.

@@ -11,3 +11,5 @@ mod lists;
 mod rows;
 pub mod span;
 pub mod table;
+#[cfg(test)]
+mod tests;

@@ -1,5 +1,5 @@
-// Pairs of a key and a value over memory that the caller brings: rows in the order of their arrival, and their numbers in the
-// order of their keys. A search halves; an insertion moves numbers of 16 bits only.
+// Pairs in key order over memory that the caller brings: rows as they arrive, and their numbers in the order of their keys.
+// Finding a key halves what is left; an insertion moves numbers of 16 bits only.
 
 ghost use mathlib.Core.Path.{_≡_};
 ghost use mathlib.Core.List.{[]};

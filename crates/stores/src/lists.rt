@@ -9,14 +9,14 @@ ghost use Rattle.storage.specs.Deltas.{deltas-of};
 use storage::delta::Delta;
 
 // The most entries that a list may have.
-pub const MOST: usize = 64;
+pub const MOST_ENTRIES: usize = 64;
 
 // The first place whose region does not rise, or that lies past the most entries.
 pub fn fault(list: &[Delta]) -> Option<usize>
     ensures { λ r. ⌜ r ≡ deltas-fault (deltas-of (now (list .entry))) ⌝ }
 {
     for i in 1..list.len() {
-        if i == MOST {
+        if i == MOST_ENTRIES {
             return Some(i);
         }
         if list[i].region <= list[i - 1].region {

@@ -1,5 +1,5 @@
 // Lists of deltas in places that the caller brings, numbered from 0 in the order in which they came.
-// A list is sought by comparing it with each that is held: linear in what is held.
+// A list is sought by asking each that is held at every region of either: linear in what is held.
 
 ghost use mathlib.Core.Path.{_≡_};
 ghost use mathlib.Core.List.{[], map};
@@ -13,7 +13,7 @@ ghost use Rattle.spec.specs.StoreModels.{take-place, flat};
 ghost use Rattle.storage.specs.Deltas.{deltas-of};
 ghost use Rattle.stores.specs.Answers.{told};
 ghost use Rattle.stores.specs.Places.{list-in, rows-of};
-use crate::lists::MOST;
+use crate::lists::MOST_ENTRIES;
 use crate::lists::alike;
 use crate::lists::delta_at;
 use storage::delta::Delta;
@@ -28,7 +28,7 @@ const MOST_PLACES: usize = 65_535;
 #[derive(Clone, Copy)]
 pub struct Place {
     len: usize,
-    entries: [Delta; MOST],
+    entries: [Delta; MOST_ENTRIES],
 }
 
 impl Place {
@@ -41,7 +41,7 @@ impl Place {
             entries: [Delta {
                 region: 0,
                 delta: 0,
-            }; MOST],
+            }; MOST_ENTRIES],
         }
     }
 
@@ -52,7 +52,7 @@ impl Place {
         let mut entries = [Delta {
             region: 0,
             delta: 0,
-        }; MOST];
+        }; MOST_ENTRIES];
         for i in 0..list.len() {
             entries[i] = list[i];
         }
@@ -65,7 +65,7 @@ impl Place {
     fn list(&self) -> &[Delta]
         ensures { λ r. ⌜ deltas-of (now r) ≡ list-in (now (self .entry)) ⌝ }
     {
-        let n = self.len.min(MOST);
+        let n = self.len.min(MOST_ENTRIES);
         &self.entries[0..n]
     }
 }

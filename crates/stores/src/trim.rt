@@ -7,7 +7,7 @@ ghost use Rattle.spec.specs.Stores.{Fresh};
 ghost use Rattle.spec.specs.StoreModels.{trimmed};
 ghost use Rattle.storage.specs.Deltas.{deltas-of};
 ghost use Rattle.stores.specs.Meanings.{trim-layer, trim-layer-laws};
-use crate::lists::MOST;
+use crate::lists::MOST_ENTRIES;
 use crate::lists::fault;
 use crate::store::VariationStore;
 use storage::delta::Delta;
@@ -31,7 +31,7 @@ impl<S: VariationStore> TrimLayer<S> {
 }
 
 // Copies the deltas that are not 0 to the front of `room`, and answers how many there are.
-fn trim(list: &[Delta], room: &mut [Delta; MOST]) -> usize
+fn trim(list: &[Delta], room: &mut [Delta; MOST_ENTRIES]) -> usize
     requires { ⌜ length (now list) ≤ 64 ⌝ }
     ensures within { λ n. ⌜ n ≤ 64 ⌝ }
     ensures items { λ n. ⌜ deltas-of (take n (now (room .exit))) ≡ trimmed (deltas-of (now (list .entry))) ⌝ }
@@ -59,7 +59,7 @@ pub impl<S: VariationStore> VariationStore for TrimLayer<S> as TrimVariationStor
         let mut room = [Delta {
             region: 0,
             delta: 0,
-        }; MOST];
+        }; MOST_ENTRIES];
         let n = trim(list, &mut room);
         match self.below.add(&room[0..n]) {
             Ok(id) => Ok(id),
