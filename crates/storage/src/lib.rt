@@ -1,0 +1,3 @@
+// The state of an open lookup, over memory that the caller brings.
+
+pub mod denial;
