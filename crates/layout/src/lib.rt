@@ -1,0 +1,3 @@
+// The byte formats that all positioning tables share.
+
+pub mod output;
