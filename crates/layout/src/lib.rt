@@ -1,3 +1,4 @@
 // The byte formats that all positioning tables share.
 
 pub mod output;
+pub mod reading;
