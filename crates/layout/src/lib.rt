@@ -1,5 +1,6 @@
 // The byte formats that all positioning tables share.
 
+pub mod device;
 pub mod output;
 pub mod reading;
 mod searches;
