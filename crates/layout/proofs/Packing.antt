@@ -11,12 +11,16 @@ use Prim.Native.Nat.{zero}
 use lib.Dec.{ltb, leb, eqb}
 use lib.IntN.{ℤ, pos, negsuc}
 use lib.Signed.{mag}
+use mir.Val.{SFits}
+use mir.Syntax.{w8}
 use lib.ListN.{length, getD, take, drop}
 use Rattle.std.proofs.shelf.Ways.{tells}
 use Rattle.std.proofs.shelf.Bits.{pow-pos, pow-add, mod-below, shl-whole, mul-le, div-add-mod'}
-use Rattle.std.proofs.shelf.Lists.{at-drop-more, at-drop-all, take-all, length-drop, length-take, getD-take, getD-drop}
+use Rattle.std.proofs.shelf.Lists.{at-drop-more, at-drop-all, drop-more, take-all, length-drop, length-take, getD-take, getD-drop}
 use Rattle.spec.specs.Fields.{bits-of, signed}
 use Rattle.spec.specs.Devices.{needed-format, delta-format, pack}
+use Rattle.spec.specs.Lists.{Every}
+use Rattle.laws.specs.Conditions.{Within}
 use Rattle.layout.specs.Widths.{Wide}
 
 pub asks-bounds : (v : ℤ) → (1 ≤ needed-format v) × (needed-format v ≤ 3)
@@ -52,3 +56,11 @@ pub word-more : (w s : ℕ) (vs : List ℤ) (i : ℕ) → i < length vs → s + 
 word-more w s vs i h e =
     let k : 16 - w * (i + 1) ≡ s - w = omega (arith, mul-add w i 1) in
     at-drop-more (pack w i) vs i (pos 0) h ∙ ap (λ x. bits-of w (getD vs i (pos 0)) * 2 ^ x + pack w (i + 1) (drop (i + 1) vs)) k
+
+within : (v : ℤ) → SFits w8 v → Within 128 v
+within (pos n) h = h .sfits
+within (negsuc n) h = h .sfits
+
+-- one more value that is a signed byte
+pub one-within : (vs : List ℤ) (i : ℕ) → i < length vs → SFits w8 (getD vs i (pos 0)) → Every (Within 128) (drop (i + 1) vs) → Every (Within 128) (drop i vs)
+one-within vs i h f e = subst (λ l. Every (Within 128) l) (sym (drop-more vs i (pos 0) h)) (within (getD vs i (pos 0)) f, e)

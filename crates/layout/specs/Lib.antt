@@ -1,2 +1,6 @@
 pub mod Writing
 pub mod Widths
+pub mod Headers
+pub mod Faults
+pub mod Described
+pub mod Gathering

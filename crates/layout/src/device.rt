@@ -1,78 +1,99 @@
-// Device tables: how wide the values are, how they are packed into words, and the value at a place of a word.
+// Device tables: values for pixel sizes, packed into words as narrow as they allow.
 
 ghost use mathlib.Core.Path.{_≡_};
-ghost use mathlib.Core.Logic.{_⊎_};
-ghost use Prim.Native.Nat.{_+_, _*_, _^_, _<_, _≤_};
+ghost use mathlib.Core.List.{List};
+ghost use Prim.Native.Nat.{ℕ, _+_, _-_, _^_, _<_};
 ghost use lib.ListN.{length};
-ghost use Rattle.spec.specs.Fields.{bits-of, signed};
-ghost use Rattle.spec.specs.Devices.{needed-format, delta-format, pack, unpack};
-ghost use Rattle.layout.specs.Widths.{Wide};
+ghost use denote.Ref.{now};
+ghost use Rattle.std.specs.declared.option.Option.the-variants.{None};
+ghost use Rattle.std.specs.declared.result.Result.the-variants.{Ok};
+ghost use Rattle.spec.specs.Fields.{big-endian, Stand};
+ghost use Rattle.spec.specs.Entries.{value-at};
+ghost use Rattle.spec.specs.Devices.{device-fields};
+ghost use Rattle.spec.specs.Meaning.{beside, no-id};
+ghost use Rattle.layout.specs.Writing.{Puts, room};
+ghost use Rattle.layout.specs.Faults.{Allows, device-fault};
+ghost use Rattle.layout.specs.Described.{described};
+use crate::beside::read_beside;
+use crate::delta_words::delta_format;
+use crate::delta_words::widths;
+use crate::delta_words::write_words;
+use crate::output::Output;
+use crate::write::FontRead;
+use crate::write::FontWrite;
+use storage::denial::Denial;
+use storage::denial::Part;
+use storage::denial::Word;
 
-// The low bits of a value, as a number.
-fn low_bits(value: i8, width: u32) -> u16
-    requires { ⌜ Wide width ⌝ }
-    ensures { λ r. ⌜ r ≡ bits-of width value ⌝ }
-{
-    let x = (value as i16 + 256) as u16;
-    match width {
-        2 => x % 4,
-        4 => x % 16,
-        _ => x % 256,
+// Values for the pixel sizes from the first on, one a size.
+#[derive(Clone, Copy)]
+pub struct Device<'a> {
+    pub first_size: u16,
+    pub values: &'a [i8],
+}
+
+impl Device<'_> {
+    // The last size, or why the device cannot be written: it has no value, or a size above 65,535.
+    fn last_size(&self) -> Result<u16, Denial>
+        ensures { λ r. ⌜ Allows r (device-fault (now (self .entry) .«first_size») (length (now (now (self .entry) .values)))) (now (self .entry) .«first_size» + length (now (now (self .entry) .values)) - 1) ⌝ }
+    {
+        if self.values.is_empty() {
+            return Err(Denial::new(Word::BadDevice, 0, Part::Writer));
+        }
+        let last = self.first_size as usize + (self.values.len() - 1);
+        if last > 65535 {
+            return Err(Denial::new(Word::BadDevice, 1, Part::Writer));
+        }
+        Ok(last as u16)
     }
 }
 
-// The delta format that a value needs.
-fn format_for(value: i8) -> u16
-    ensures { λ r. ⌜ r ≡ needed-format value ⌝ }
-{
-    match value {
-        -2..=1 => 1,
-        -8..=7 => 2,
-        _ => 3,
+pub impl<'a> FontWrite for Device<'a> as DeviceWrite {
+    ghost encoded = { λ d. device-fields (described d) };
+
+    ghost fault = { λ d. device-fault (d .«first_size») (length (now (d .values))) };
+
+    fn size(&self) -> usize
+        ensures value { λ r. ⌜ r ≡ room (device-fault (now (self .entry) .«first_size») (length (now (now (self .entry) .values)))) (device-fields (described (now (self .entry)))) ⌝ }
+        ensures bound { λ r. ⌜ r < 2 ^ 32 ⌝ }
+    {
+        match self.last_size() {
+            Ok(_) => {
+                let (_, per_word) = widths(delta_format(self.values));
+                6 + 2 * ((self.values.len() + per_word - 1) / per_word)
+            }
+            Err(_) => 0,
+        }
+    }
+
+    fn write_into(&self, out: &mut Output<'_>) -> Result<(), Denial>
+        ensures { λ r. ⌜ Puts (device-fault (now (self .entry) .«first_size») (length (now (now (self .entry) .values)))) r (now (out .entry)) (now (out .exit)) (big-endian (device-fields (described (now (self .entry))))) ⌝ }
+    {
+        let last = self.last_size()?;
+        let format = delta_format(self.values);
+        out.fields(&[self.first_size, last, format])?;
+        write_words(out, self.values, format)
     }
 }
 
-// The widest wins.
-pub fn delta_format(values: &[i8]) -> u16
-    ensures value { λ r. ⌜ r ≡ delta-format (now (values .entry)) ⌝ }
-    ensures bound { λ r. ⌜ (1 ≤ r) × (r ≤ 3) ⌝ }
-{
-    let mut format: u16 = 1;
-    for value in values {
-        format = format.max(format_for(*value));
-    }
-    format
-}
+pub impl<'a> FontRead for Device<'a> as DeviceRead {
+    type Question = u16;
 
-// One word: values from its high end down, the unused low bits 0.
-fn pack_word(values: &[i8], width: u32) -> u16
-    requires { ⌜ Wide width ⌝ }
-    requires { ⌜ width * length (now values) ≤ 16 ⌝ }
-    ensures { λ r. ⌜ r ≡ pack width 0 (now (values .entry)) ⌝ }
-{
-    let mut word = 0;
-    let mut shift = 16;
-    for value in values {
-        shift -= width;
-        word += low_bits(*value, width) << shift;
-    }
-    word
-}
+    type Answer = (i8, u32);
 
-// A number of so many bits as a signed value.
-fn signed_value(bits: u16, width: u32) -> i8
-    requires { ⌜ Wide width ⌝ }
-    requires { ⌜ bits < 2 ^ width ⌝ }
-    ensures { λ r. ⌜ r ≡ signed width bits ⌝ }
-{
-    let (half, whole) = match width {
-        2 => (2, 4),
-        4 => (8, 16),
-        _ => (128, 256),
-    };
-    if bits < half {
-        bits as i8
-    } else {
-        (bits as i16 - whole) as i8
+    ghost means = { λ bs at ppem. beside bs ppem at };
+
+    ghost answers = { λ d ppem. (value-at (described d) ppem, no-id) };
+
+    fn reads_back(&self)
+        ensures { λ _. ⌜ ((bs : List ℕ) (at q : ℕ) → device-fault (now (self .entry) .«first_size») (length (now (now (self .entry) .values))) ≡ None → Stand bs at (device-fields (described (now (self .entry)))) → beside bs q at ≡ Ok (value-at (described (now (self .entry))) q, no-id)) ⌝ }
+    {
+        let _ = delta_format(self.values);
+    }
+
+    fn read(bytes: &[u8], at: u32, ppem: u16) -> Result<(i8, u32), usize>
+        ensures { λ r. ⌜ r ≡ beside (now (bytes .entry)) ppem at ⌝ }
+    {
+        read_beside(bytes, ppem, at)
     }
 }

@@ -1,6 +1,11 @@
 // The byte formats that all positioning tables share.
 
+pub mod beside;
+pub mod delta_words;
 pub mod device;
+pub mod gather;
 pub mod output;
 pub mod reading;
 mod searches;
+pub mod variation;
+pub mod write;

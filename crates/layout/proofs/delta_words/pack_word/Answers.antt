@@ -13,7 +13,7 @@ use Rattle.std.proofs.shelf.Lists.{at-drop-all}
 use Rattle.spec.specs.Fields.{bits-of}
 use Rattle.spec.specs.Devices.{pack}
 use Rattle.layout.proofs.Packing.{low-below, add-step, word-more}
-use Rattle.layout.proofs.device.pack_word.Needs as need
+use Rattle.layout.proofs.delta_words.pack_word.Needs as need
 
 is-low : (c : need.After-low-bits) → c .low-bits .result ≡ bits-of (c .args .width) (getD (c .args .values .now) (c .loop-value .value-index) (pos 0))
 is-low c =
