@@ -5,3 +5,7 @@ pub mod Returning
 pub mod Headers
 pub mod Words
 pub mod Whole
+pub mod Gathering
+pub mod RangeWriting
+pub mod CoverageTables
+pub mod Listing

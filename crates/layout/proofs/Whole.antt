@@ -47,7 +47,7 @@ pub device-pieces : (first final f : ℕ) (vs : List ℤ) → final ≡ first + 
     → big-endian (first ∷ final ∷ f ∷ []) ++ big-endian (words-in f vs) ≡ big-endian (device-fields (record { first-size = first; values = vs }))
 device-pieces first final f vs p q = ap (λ l. big-endian (first ∷ l ∷ f ∷ words-in f vs)) p ∙ ap (λ g. big-endian (first ∷ (first + length vs - 1) ∷ g ∷ words-in g vs)) q
 
-below-fields : (bs : List ℕ) (base at : ℕ) (ns : List ℕ) → Below bs base at (fields ns end)
+pub below-fields : (bs : List ℕ) (base at : ℕ) (ns : List ℕ) → Below bs base at (fields ns end)
 below-fields bs base at [] = tt
 below-fields bs base at (n ∷ ns) = below-fields bs base at ns
 

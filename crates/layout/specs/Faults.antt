@@ -1,6 +1,6 @@
 -- Why a part cannot be written into any output.
 use mathlib.Core.Path.{_≡_}
-use mathlib.Core.Bool.{cond}
+use mathlib.Core.Bool.{cond, _||_}
 use mathlib.Core.List.{List, map}
 use Prim.Native.Nat.{ℕ, _+_, _-_, _/_}
 use lib.Dec.{eqb, ltb}
@@ -15,6 +15,7 @@ use Rattle.storage.specs.declared.denial.Denial.{Denial as code-denial}
 use Rattle.storage.specs.Denials.{denial-of}
 use Rattle.spec.specs.Denials.{Word, Part, Denial, arises}
 use Rattle.spec.specs.Lists.{numbers}
+use Rattle.spec.specs.Coverage.{coverage-count}
 use Rattle.spec.specs.Devices.{per-word, word}
 
 -- a device without a value, and one whose last size is above 65,535
@@ -31,3 +32,11 @@ words-in f vs = map (word f vs) (numbers 0 (word-count f vs))
 -- a number that a part without a fault has, else its fault
 abbrev pub Allows : Result ℕ code-denial → Option Denial → ℕ → Type 0
 Allows r fault n = Cases r (λ x. (fault ≡ None) × (x ≡ n)) (λ d. fault ≡ Some (denial-of d))
+
+-- a coverage table with more glyphs than there are, or with a count above 65,535
+abbrev pub coverage-fault : List ℕ → Option Denial
+coverage-fault gs = cond (ltb 65536 (length gs) || ltb 65535 (coverage-count gs)) (Some (arises Word.too-many (length gs) Part.writer)) None
+
+-- the format and the count of a part without a fault, else its fault
+abbrev pub Shaped : Result (ℕ × ℕ) code-denial → Option Denial → ℕ → ℕ → Type 0
+Shaped r fault format count = Cases r (λ x. (fault ≡ None) × (x .0 ≡ format) × (x .1 ≡ count)) (λ d. fault ≡ Some (denial-of d))

@@ -1,5 +1,5 @@
 -- Ranges gathered one glyph after the other.
-use mathlib.Core.Bool.{true, false, _&&_}
+use mathlib.Core.Bool.{Bool, true, false, _&&_}
 use mathlib.Core.List.{List, [], _∷_}
 use Prim.Native.Nat.{ℕ, _+_}
 use lib.Dec.{eqb}
@@ -11,18 +11,26 @@ use Rattle.layout.specs.declared.gather.Gatherer.{Gatherer}
 use Rattle.layout.specs.declared.gather.Gatherer.the-variants.{Empty, Open}
 
 -- a glyph extends the open range if it is the next glyph and has its class; else it closes it
+abbrev pub step-if : Bool → RangeRecord → ℕ → ℕ → Gatherer × Option RangeRecord
+step-if true r g c = (Open (record { start = r .start; end = g; class = c }), None)
+step-if false r g c = (Open (record { start = g; end = g; class = c }), Some r)
+
 abbrev pub step : Gatherer → ℕ → ℕ → Gatherer × Option RangeRecord
 step Empty g c = (Open (record { start = g; end = g; class = c }), None)
-step (Open r) g c = elim (eqb g (r .end + 1) && eqb c (r .class)) [
-  | true ↦ (Open (record { start = r .start; end = g; class = c }), None)
-  | false ↦ (Open (record { start = g; end = g; class = c }), Some r)
-]
+step (Open r) g c = step-if (eqb g (r .end + 1) && eqb c (r .class)) r g c
 
 -- the ranges of glyphs with their classes behind those gathered
+abbrev pub emitted : Option RangeRecord → List RangeRecord → List RangeRecord
+emitted None rs = rs
+emitted (Some r) rs = r ∷ rs
+
+abbrev pub closing : Gatherer → List RangeRecord
+closing Empty = []
+closing (Open r) = r ∷ []
+
 abbrev pub gathered : Gatherer → List (ℕ × ℕ) → List RangeRecord
-gathered Empty [] = []
-gathered (Open r) [] = r ∷ []
-gathered o (p ∷ ps) = elim (step o (p .0) (p .1) .1) [ None ↦ gathered (step o (p .0) (p .1) .0) ps | Some r ↦ r ∷ gathered (step o (p .0) (p .1) .0) ps ]
+gathered o [] = closing o
+gathered o (p ∷ ps) = emitted (step o (p .0) (p .1) .1) (gathered (step o (p .0) (p .1) .0) ps)
 
 -- a range of the code in the definitions
 abbrev pub ranged : RangeRecord → Range

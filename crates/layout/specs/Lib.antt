@@ -4,3 +4,4 @@ pub mod Headers
 pub mod Faults
 pub mod Described
 pub mod Gathering
+pub mod Listing

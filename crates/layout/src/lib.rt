@@ -1,6 +1,8 @@
 // The byte formats that all positioning tables share.
 
 pub mod beside;
+pub mod class_def;
+pub mod coverage;
 pub mod delta_words;
 pub mod device;
 pub mod gather;
