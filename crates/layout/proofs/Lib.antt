@@ -9,3 +9,5 @@ pub mod Gathering
 pub mod RangeWriting
 pub mod CoverageTables
 pub mod Listing
+pub mod ClassArrays
+pub mod ClassDefs

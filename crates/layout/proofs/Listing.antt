@@ -15,7 +15,7 @@ use Rattle.spec.specs.Lists.{numbers}
 use Rattle.spec.specs.Entries.{not-rising, unsorted}
 use Rattle.spec.specs.Classes.{class-at, first-listed, last-from, span}
 use Rattle.laws.specs.Conditions.{Above, Rising}
-use Rattle.layout.specs.declared.class_def.GlyphClass.{GlyphClass}
+use Rattle.layout.specs.declared.glyph_class.GlyphClass.{GlyphClass}
 use Rattle.layout.specs.Listing.{listed, here}
 
 abbrev pub none : GlyphClass

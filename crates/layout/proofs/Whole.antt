@@ -71,3 +71,6 @@ device-size d f per e p q =
     let l = div-le-self (length vs + per - 1) per in
     let m : per ≤ 16 = subst (λ n. n ≤ 16) (sym q) (div-le-self 16 (2 ^ f)) in
     (omega arith, omega arith)
+
+pub room-after : {o o′ : Output} {Y : Type 0} {y : Y} {p : List ℕ} → Wrote {X = Y} (Ok y) o o′ p → o′ .used ≤ length (now (o′ .bytes))
+room-after w = omega (arith, w .len, w .cases .used, w .cases .fits)

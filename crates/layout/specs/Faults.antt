@@ -15,7 +15,9 @@ use Rattle.storage.specs.declared.denial.Denial.{Denial as code-denial}
 use Rattle.storage.specs.Denials.{denial-of}
 use Rattle.spec.specs.Denials.{Word, Part, Denial, arises}
 use Rattle.spec.specs.Lists.{numbers}
-use Rattle.spec.specs.Coverage.{coverage-count}
+use Rattle.spec.specs.Coverage.{ranges, coverage-count}
+use Rattle.spec.specs.Classes.{span, shorter-as-array}
+use Rattle.spec.specs.Entries.{unsorted}
 use Rattle.spec.specs.Devices.{per-word, word}
 
 -- a device without a value, and one whose last size is above 65,535
@@ -40,3 +42,15 @@ coverage-fault gs = cond (ltb 65536 (length gs) || ltb 65535 (coverage-count gs)
 -- the format and the count of a part without a fault, else its fault
 abbrev pub Shaped : Result (ℕ × ℕ) code-denial → Option Denial → ℕ → ℕ → Type 0
 Shaped r fault format count = Cases r (λ x. (fault ≡ None) × (x .0 ≡ format) × (x .1 ≡ count)) (λ d. fault ≡ Some (denial-of d))
+
+-- the count of a class definition
+abbrev pub class-count : List (ℕ × ℕ) → ℕ
+class-count ps = cond (shorter-as-array ps) (span ps) (length (ranges ps))
+
+abbrev pub class-fault-by : Option ℕ → ℕ → Option Denial
+class-fault-by (Some i) n = Some (arises Word.bad-set i Part.writer)
+class-fault-by None n = cond (ltb 65535 n) (Some (arises Word.too-many n Part.writer)) None
+
+-- a class definition whose glyphs do not rise, or with a count above 65,535
+abbrev pub class-fault : List (ℕ × ℕ) → Option Denial
+class-fault ps = class-fault-by (unsorted (map (λ p. p .0) ps)) (class-count ps)

@@ -3,7 +3,7 @@ use mathlib.Core.Bool.{true, false}
 use mathlib.Core.List.{List, [], _∷_, map}
 use Prim.Native.Nat.{ℕ}
 use lib.Dec.{eqb}
-use Rattle.layout.specs.declared.class_def.GlyphClass.{GlyphClass}
+use Rattle.layout.specs.declared.glyph_class.GlyphClass.{GlyphClass}
 
 abbrev pub listed : List GlyphClass → List (ℕ × ℕ)
 listed cs = map (λ e. (e .glyph, e .class)) cs

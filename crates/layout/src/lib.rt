@@ -6,6 +6,7 @@ pub mod coverage;
 pub mod delta_words;
 pub mod device;
 pub mod gather;
+pub mod glyph_class;
 pub mod output;
 pub mod reading;
 mod searches;

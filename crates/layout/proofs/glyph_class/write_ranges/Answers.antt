@@ -3,8 +3,8 @@ use native.Mathlib.Omega.{arith}
 use Rattle.std.proofs.shelf.Results.{err-from-errBy}
 use Rattle.layout.proofs.Places.{begin, again, fails, ends, last}
 use Rattle.layout.proofs.RangeWriting.{class-of, come-all, come-next, come-empty, come-open, writes-next, writes-same}
-use Rattle.layout.proofs.class_def.write_ranges.Needs as need
-use Rattle.layout.proofs.class_def.write_ranges.Needs.{in-Some·in-Continue-fields, in-rest}
+use Rattle.layout.proofs.glyph_class.write_ranges.Needs as need
+use Rattle.layout.proofs.glyph_class.write_ranges.Needs.{in-Some·in-Continue-fields, in-rest}
 
 pub loop-entry-holds : need.loop-entry-holds
 loop-entry-holds c = again (begin (c .args .out .now) _ (omega arith)) _ (come-all class-of (λ e. (e .glyph, e .class)) (record { glyph = 0; class = 0 }) (c .args .classes .now))

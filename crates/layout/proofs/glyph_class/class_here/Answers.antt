@@ -1,5 +1,5 @@
 use Rattle.layout.proofs.Listing.{here-none, here-yes, here-no}
-use Rattle.layout.proofs.class_def.class_here.Needs as need
+use Rattle.layout.proofs.glyph_class.class_here.Needs as need
 
 pub returns-then-place-classes : need.returns-then-place-classes
 returns-then-place-classes c = here-none (c .args .classes .now) (c .args .place) (c .args .glyph) (c .if-place-classes .taken)

@@ -1,8 +1,8 @@
 use mathlib.Core.Path.{refl, ap}
 use native.Mathlib.Omega.{arith}
 use Rattle.layout.proofs.Gathering.{one, counts-none, counts-next, counted}
-use Rattle.layout.proofs.class_def.count_ranges.Needs as need
-use Rattle.layout.proofs.class_def.count_ranges.Needs.{then-is-some, else-is-some}
+use Rattle.layout.proofs.glyph_class.count_ranges.Needs as need
+use Rattle.layout.proofs.glyph_class.count_ranges.Needs.{then-is-some, else-is-some}
 
 pub loop-entry-holds : need.loop-entry-holds
 loop-entry-holds c = counts-none (λ e. (e .glyph, e .class)) (record { glyph = 0; class = 0 }) (c .args .classes .now)

@@ -1,7 +1,7 @@
 use mathlib.Core.Path.{_≡_, sym, _∙_}
 use native.Mathlib.Omega.{arith}
 use Rattle.layout.proofs.Listing.{unsorted-all, unsorted-here, unsorted-next, unsorted-none}
-use Rattle.layout.proofs.class_def.first_unsorted.Needs as need
+use Rattle.layout.proofs.glyph_class.first_unsorted.Needs as need
 
 pub loop-i-holds : need.loop-i-holds
 loop-i-holds c = unsorted-all (c .args .classes .now)
