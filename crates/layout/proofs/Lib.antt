@@ -11,3 +11,4 @@ pub mod CoverageTables
 pub mod Listing
 pub mod ClassArrays
 pub mod ClassDefs
+pub mod Values

@@ -5,3 +5,4 @@ pub mod Faults
 pub mod Described
 pub mod Gathering
 pub mod Listing
+pub mod Present
