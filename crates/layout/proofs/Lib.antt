@@ -1,0 +1,14 @@
+pub mod Places
+pub mod Searching
+pub mod Packing
+pub mod Returning
+pub mod Headers
+pub mod Words
+pub mod Whole
+pub mod Gathering
+pub mod RangeWriting
+pub mod CoverageTables
+pub mod Listing
+pub mod ClassArrays
+pub mod ClassDefs
+pub mod Values
