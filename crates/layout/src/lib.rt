@@ -9,6 +9,7 @@ pub mod gather;
 pub mod glyph_class;
 pub mod output;
 pub mod reading;
-mod searches;pub mod value;
+mod searches;
+pub mod value;
 pub mod variation;
 pub mod write;
