@@ -5,4 +5,4 @@ use Rattle.storage.specs.Deltas.{delta_of}
 use Rattle.storage.proofs.faults.deltas_fault.Goals as goal
 
 pub returns : goal.returns
-returns c = c.lower.ensures ∙ (λ i. lower (c.unsorted-region.ensures i) (ltb 64 (sym (length-map c.args.list.now delta_of) i)))
+returns c = c.lower.ensures ∙ (λ i. lower (c.unsorted_region.ensures i) (ltb 64 (sym (length-map c.args.list.now delta_of) i)))

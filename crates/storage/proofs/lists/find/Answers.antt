@@ -8,11 +8,11 @@ loop-i-init g c = sym (zero-add _)
 
 pub loop-i-preserved : goal.loop-i-preserved
 loop-i-preserved g c =
-    find_go (same_entry g.H.Exact.equal g.T.Exact.equal) (c.args.head, c.args.list.now) (entry c.args.pool.now) c.args.spans.now c.loop-i.i _ c.loop-i-test.true c.index-spans-i.is c.if-same-entry.ensures c.loop-i.invariant
+    find_go (same_entry g.H.Exact.equal g.T.Exact.equal) (c.args.head, c.args.list.now) (entry c.args.pool.now) c.args.spans.now c.loop-i.i _ c.loop-i-test.true c.index-spans-i.is c.if-same_entry.ensures c.loop-i.invariant
 
-pub returns-then-same-entry : goal.returns-then-same-entry
-returns-then-same-entry g c =
-    find_stop (same_entry g.H.Exact.equal g.T.Exact.equal) (c.args.head, c.args.list.now) (entry c.args.pool.now) c.args.spans.now c.loop-i.i _ c.loop-i-test.true c.index-spans-i.is c.if-same-entry.ensures c.loop-i.invariant
+pub returns-then-same_entry : goal.returns-then-same_entry
+returns-then-same_entry g c =
+    find_stop (same_entry g.H.Exact.equal g.T.Exact.equal) (c.args.head, c.args.list.now) (entry c.args.pool.now) c.args.spans.now c.loop-i.i _ c.loop-i-test.true c.index-spans-i.is c.if-same_entry.ensures c.loop-i.invariant
 
 pub returns : goal.returns
 returns g c =

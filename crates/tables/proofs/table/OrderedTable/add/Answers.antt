@@ -15,8 +15,8 @@ returns-then-not-takes g c =
 pub returns : goal.returns
 returns g c =
     let t = c.args.self.now in
-    let u = c.open-up.new.self in
-    let p = c.open-up.ensures in
+    let u = c.open_up.new.self in
+    let p = c.open_up.ensures in
     let i = c.args.i in
     let ns = take t.used t.order.now in
     let x : g.row.K.Denot × g.row.V.Denot = (c.args.key, c.args.value) in

@@ -7,7 +7,7 @@ use Rattle.tables.proofs.table.OrderedTable.insert_last.Goals as goal
 pub returns-in-Ok : goal.returns-in-Ok
 returns-in-Ok g c =
     let t = c.args.self.now in
-    let s = c.set-at.ensures in
+    let s = c.set_at.ensures in
     let e = λ (o : Ordered g.K.Key.cmp t). last_old g.K.Key.cmp g.met.K.Key.flip c.args.key c.args.value g.met.K.Key.exact (pairs t) c.in-Ok.i (c.in-Ok.ensures.finds o) in
     let a = λ (o : Ordered g.K.Key.cmp t). taken_same t o.sound _ (ap length (sym (e o)) ∙ length_value (pairs t) c.in-Ok.i c.args.value) in
     record { answer = λ o. (a o).0; after = λ o. s.after o ∙ e o ∙ (a o).1; ordered = s.ordered; same_most = s.same_most }
