@@ -1,3 +1,4 @@
 // Why a call is denied, and what a denied call answers.
+#![tactic(auto)]
 
 pub mod denial;

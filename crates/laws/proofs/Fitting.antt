@@ -1,8 +1,8 @@
 -- Built records fit: a rule list that calls make gives defaults, devices and ids of which each can be written and read.
-use Rattle.std.proofs.Common.{◌≡◌, ℕ, ◌+◌, ◌<◌, Bool, true, false, leb, List, [], ◌∷◌, ◌++◌, map, length, get_or, drop, ℤ, Some, None, Option, sym, refl, ap, ◌∙◌, subst, arith, length-append}
+use Rattle.std.proofs.Common.{◌≡◌, ℕ, ◌+◌, ◌<◌, Bool, true, false, leb, List, [], ◌∷◌, ◌++◌, map, length, drop, ℤ, Some, None, Option, refl, ap, ◌∙◌, subst, arith, length-append}
 use Rattle.std.proofs.lemmas.Bool.Decides.{nat_tests}
 use Rattle.spec.specs.Lists.{Every, place_of, concat}
-use Rattle.spec.specs.Entries.{Device, no_device}
+use Rattle.spec.specs.Entries.{no_device}
 use Rattle.spec.specs.Values.{Metric, ValueRecord, DeviceOrDeltas, device#, deltas#, DeviceOrVariationIndex, device, variation_index, build_order, delta_list, delta_lists, built_metric, built_record}
 use Rattle.spec.specs.Rules.{RuleKind, RuleList, unknown, unknown_place}
 use Rattle.list_laws.specs.Answering.{Matched}

@@ -1,5 +1,5 @@
 -- Stores keep what they hold: through every call of a run, and so the ids of a build hold its lists at the end.
-use Rattle.std.proofs.Common.{◌≡◌, ℕ, ◌⊎◌, List, [], ◌∷◌, Some, None, Ok, Err, Option, Result, sym, refl, ◌∙◌, subst, inl, inr}
+use Rattle.std.proofs.Common.{◌≡◌, ℕ, List, [], ◌∷◌, Some, Ok, Err, Option, Result, sym, refl, ◌∙◌, subst, inl, inr}
 use Rattle.spec.specs.Denials.{Denial, Answer}
 use Rattle.spec.specs.Entries.{Delta}
 use Rattle.spec.specs.Rules.{Call, enter_set, enter_device, enter_deltas, insert, break, build, RuleList, Capacity}

@@ -1,18 +1,18 @@
 -- Accepted calls keep rule lists good: so every run makes a good one.
-use Rattle.std.proofs.Common.{◌≡◌, ℕ, ◌+◌, ◌-◌, ◌<◌, ◌≤◌, Bool, true, false, eqb, ltb, leb, List, [], ◌∷◌, ◌++◌, map, length, ℤ, Some, None, Option, sym, refl, ap, ◌∙◌, subst, arith}
+use Rattle.std.proofs.Common.{◌≡◌, ℕ, ◌+◌, ◌≤◌, Bool, true, false, leb, List, [], ◌∷◌, ◌++◌, map, length, ℤ, Some, None, Option, sym, refl, ◌∙◌, subst, arith}
 use Rattle.std.proofs.lemmas.Bool.Decides.{nat_tests}
 use Rattle.spec.specs.Lists.{Every, any, or_else, place_of, concat, same_list}
-use Rattle.spec.specs.Denials.{Word, Part, Denial, Answer, taken, entered, denied, arises, at_place, when, passed_up, prevailing, is_denied}
-use Rattle.spec.specs.Entries.{Device, Delta, set_fault, device_fault, same_device, same_deltas}
-use Rattle.spec.specs.Values.{Metric, ValueRecord, DeviceOrDeltas, device#, deltas#, build_order}
+use Rattle.spec.specs.Denials.{Word, Part, Denial, Answer, denied, at_place, passed_up, prevailing, is_denied}
+use Rattle.spec.specs.Entries.{Device, set_fault, device_fault, same_device, same_deltas}
+use Rattle.spec.specs.Values.{Metric, DeviceOrDeltas, device#, deltas#, build_order}
 use Rattle.spec.specs.Rules.{Call, enter_set, enter_device, enter_deltas, insert, break, build, RuleList, RuleKind, Capacity, interned, sections, opened, after, after_all, unknown, unknown_place, denial, accepted, answer}
 use Rattle.spec.specs.Stores.{Store}
 use Rattle.spec.specs.Runs.{Kind, Run, ends, builds, goes, Does}
 use Rattle.list_laws.proofs.Orders.{every_map, false_true}
 use Rattle.list_laws.proofs.Within.{every_append}
 use Rattle.list_laws.proofs.Members.{some_none}
-use Rattle.laws.specs.Conditions.{Within, FitsDevice}
-use Rattle.laws.specs.Made.{FitsValues, FitsCall, FitsRule, Made}
+use Rattle.laws.specs.Conditions.{FitsDevice}
+use Rattle.laws.specs.Made.{FitsCall, FitsRule, Made}
 
 -- ---- no denial, no fault
 

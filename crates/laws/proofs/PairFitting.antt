@@ -1,24 +1,24 @@
 -- The pair subtables of a build fit: records can be written and read, glyph pairs have the formats of their subtable, and in a group
 -- different sets of one side share no glyph.
-use Rattle.std.proofs.Common.{◌≡◌, ℕ, Bool, true, false, not, ◌&&◌, ◌||◌, eqb, ◌⊎◌, List, [], ◌∷◌, ◌++◌, map, reverse, length, drop, Some, None, Option, sym, refl, ap, ◌∙◌, subst, inl, inr}
+use Rattle.std.proofs.Common.{◌≡◌, ℕ, Bool, true, false, not, ◌&&◌, ◌||◌, eqb, List, [], ◌∷◌, ◌++◌, map, reverse, length, drop, sym, refl, ap, subst, inl, inr}
 use mathlib.Core.List.{reverse_aux}
 use Rattle.spec.specs.Lists.{Every, keep, all, has, concat, sorted}
-use Rattle.spec.specs.Values.{ValueRecord, DeviceOrVariationIndex, PairOf, format, delta_lists, pair_lists, built_pair, built_each, build_order}
+use Rattle.spec.specs.Values.{DeviceOrVariationIndex, PairOf, format, delta_lists, pair_lists, built_pair, built_each, build_order}
 use Rattle.spec.specs.Rules.{RuleList, sections, unknown}
 use Rattle.spec.specs.Kinds.{Pair, PairRule, glyphs, classes, glyph_rules, class_rules, pair_rules, set_of, disjoint, joins, grouped, groups, standing_pairs, standing_cells, standing_groups}
 use Rattle.spec.specs.Build.{BuiltPair, Cell, PairSubtable, glyph_pairs, class_pairs, formats, formats_before, of_formats, pair_subtables, with_sets, class_subtable, pairs_lists, pair_build, numbers_to_add, built, built_sections}
 use Rattle.list_laws.specs.Answering.{Matched}
 use Rattle.list_laws.proofs.Orders.{every_map, every_sorted, false_true}
 use Rattle.list_laws.proofs.Linear.{numbers_linear, both}
-use Rattle.list_laws.proofs.Within.{In, every_in, in_every, every_append, every_keep, every_kept, every_over}
+use Rattle.list_laws.proofs.Within.{In, every_append, every_keep, every_kept, every_over}
 use Rattle.list_laws.proofs.Members.{every_member, every_all}
 use Rattle.list_laws.proofs.Holding.{matched_front, matched_back, built_every}
 use Rattle.list_laws.proofs.PairAnswers.{pair_order, cell_order, of_format}
 use Rattle.list_laws.proofs.Sides
-use Rattle.laws.specs.Conditions.{FitsRecord, PairsOf, Apart, AllApart, Group, FitsPairs}
+use Rattle.laws.specs.Conditions.{FitsRecord, Apart, AllApart, FitsPairs}
 use Rattle.laws.specs.Made.{Made, FitsRule, FitsValues}
 use Rattle.laws.proofs.Finding.{every_both}
-use Rattle.laws.proofs.Fitting.{Good, Own, Ids, record_good, known_metrics}
+use Rattle.laws.proofs.Fitting.{Good, Own, record_good, known_metrics}
 use Rattle.laws.proofs.SingleFitting.{every_concat}
 
 -- ---- sets that share no glyph unless they are the same

@@ -1,13 +1,11 @@
 -- The single subtables of a build fit: each has a glyph, and records of one value format that can be written and read.
-use Rattle.std.proofs.Common.{◌≡◌, ℕ, ◌≤◌, Bool, true, false, not, ◌&&◌, ◌||◌, eqb, ltb, ◌⊎◌, List, [], ◌∷◌, ◌++◌, map, length, Some, None, Option, sym, refl, ap, ◌∙◌, subst, inl, inr, arith}
-use Rattle.std.proofs.lemmas.Bool.Decides.{nat_tests}
-use Rattle.spec.specs.Lists.{Every, keep, concat, decided, first, sorted}
-use Rattle.spec.specs.Values.{ValueRecord, DeviceOrVariationIndex, format, single_lists, built_single, built_each, same_record}
+use Rattle.std.proofs.Common.{◌≡◌, ℕ, ◌≤◌, Bool, true, false, not, ◌&&◌, ◌||◌, eqb, List, [], ◌∷◌, map, length, sym, refl, ap, arith}
+use Rattle.spec.specs.Lists.{Every, concat}
+use Rattle.spec.specs.Values.{format, single_lists, built_single, built_each, same_record}
 use Rattle.spec.specs.Rules.{RuleList, sections}
 use Rattle.spec.specs.Kinds.{SingleRule, single_rules, standing_singles}
-use Rattle.spec.specs.Build.{BuiltSingle, large, together, subtable_of, single_subtables, single_build, numbers_to_add, built, built_sections}
+use Rattle.spec.specs.Build.{BuiltSingle, large, together, subtable_of, single_build, numbers_to_add, built, built_sections}
 use Rattle.list_laws.specs.Answering.{Matched}
-use Rattle.list_laws.specs.Says.{single_says}
 use Rattle.list_laws.proofs.Orders.{every_map, every_sorted, false_true}
 use Rattle.list_laws.proofs.Linear.{numbers_linear}
 use Rattle.list_laws.proofs.Sames.{record_same}

@@ -1,5 +1,5 @@
 -- The bytes of a lookup of SinglePos subtables read as the subtables tried in order.
-use Rattle.std.proofs.Common.{◌≡◌, ℕ, ◌≤◌, List, ◌++◌, map, length, refl}
+use Rattle.std.proofs.Common.{ℕ, ◌≤◌, ◌++◌, map, length, refl}
 use Rattle.spec.specs.Bytes.{lookup_bytes, lookup_table, single_table}
 use Rattle.spec.specs.Meaning.{single}
 use Rattle.laws.specs.Conditions.{SinglesOf}

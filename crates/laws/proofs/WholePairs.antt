@@ -1,5 +1,5 @@
 -- Pair lookups: the written bytes answer as the rule list does.
-use Rattle.std.proofs.Common.{◌≡◌, ℕ, Bool, true, false, ◌&&◌, eqb, List, [], ◌∷◌, ◌++◌, map, get_or, Some, None, Ok, Err, Option, Result, sym, refl, ap, ◌∙◌, subst, append-nil}
+use Rattle.std.proofs.Common.{◌≡◌, ℕ, Bool, true, false, ◌&&◌, eqb, List, [], ◌∷◌, map, get_or, Some, None, Ok, Option, sym, refl, ap, ◌∙◌, subst, append-nil}
 use Rattle.spec.specs.Lists.{Every, first, any, has, map_some, decided}
 use Rattle.spec.specs.Values.{ValueRecord, DeviceOrVariationIndex, PairOf, build_order}
 use Rattle.spec.specs.Build.{BuiltPair, Cell, PairSubtable, glyph_pairs, class_pairs, built, pair_build, lists_to_add, numbers_to_add}
@@ -13,7 +13,7 @@ use Rattle.list_laws.proofs.Within.{every_in}
 use Rattle.list_laws.proofs.Members.{first_found, map_decided, some_none}
 use Rattle.list_laws.proofs.Holding.{matched_map, matched_weaken}
 use Rattle.list_laws.proofs.PairAnswers.{pairs_answer}
-use Rattle.laws.specs.Descriptions.{two_read, pairs_read}
+use Rattle.laws.specs.Descriptions.{two_read}
 use Rattle.laws.specs.Whole.{BytesAnswer}
 use Rattle.laws.proofs.Fitting.{Ids}
 use Rattle.laws.proofs.PairFitting.{GoodPair, FitPair, pairs_fit}

@@ -1,16 +1,12 @@
 -- Single lookups: the written bytes answer as the rule list does.
-use Rattle.std.proofs.Common.{◌≡◌, ℕ, Bool, true, false, eqb, List, [], ◌∷◌, ◌++◌, map, get_or, Some, None, Ok, Err, Option, Result, sym, refl, ap, ◌∙◌, subst, append-nil}
-use Rattle.spec.specs.Lists.{Every, first, or_else, map_some, decided}
+use Rattle.std.proofs.Common.{◌≡◌, ℕ, eqb, List, [], ◌∷◌, map, get_or, Some, None, Ok, Option, sym, refl, ap, ◌∙◌, subst, append-nil}
+use Rattle.spec.specs.Lists.{Every, first, map_some, decided}
 use Rattle.spec.specs.Values.{ValueRecord, DeviceOrVariationIndex, build_order}
-use Rattle.spec.specs.Rules.{RuleList}
-use Rattle.spec.specs.Kinds.{SingleRule, single_rules}
 use Rattle.spec.specs.Build.{BuiltSingle, built, single_build, lists_to_add, numbers_to_add}
 use Rattle.spec.specs.Bytes.{lookup_bytes, single_table}
-use Rattle.spec.specs.ListAnswer.{Adjustment, single_answer}
-use Rattle.spec.specs.Meaning.{ReadMetric, single_meaning}
+use Rattle.spec.specs.Meaning.{single_meaning}
 use Rattle.spec.specs.Stores.{Store, Laws, Holds}
 use Rattle.spec.specs.Promise.{single_pos, Agrees, Records, StoreDelta}
-use Rattle.list_laws.specs.Answering.{Matched}
 use Rattle.list_laws.specs.Says.{single_says, built_adjustments}
 use Rattle.list_laws.proofs.Orders.{every_map}
 use Rattle.list_laws.proofs.Within.{every_in}
@@ -18,7 +14,6 @@ use Rattle.list_laws.proofs.Members.{first_found, map_map, map_decided, decided_
 use Rattle.list_laws.proofs.Holding.{matched_map, matched_weaken}
 use Rattle.list_laws.proofs.SingleAnswers.{singles_answer}
 use Rattle.laws.specs.Descriptions.{record_read, single_read}
-use Rattle.laws.specs.Made.{Made}
 use Rattle.laws.specs.Whole.{BytesAnswer}
 use Rattle.laws.proofs.Fitting.{Ids}
 use Rattle.laws.proofs.SingleFitting.{Fit, singles_fit}

@@ -1,11 +1,11 @@
 -- The whole way from the rule list to the reading of the written bytes, over any kind of lookup and any store.
-use Rattle.std.specs.Prelude.{◌≡◌, ℕ, List, map, Some, None, Option}
+use Rattle.std.specs.Prelude.{ℕ, List, map, Some, Option}
 use Rattle.spec.specs.Lists.{Every}
 use Rattle.spec.specs.Denials.{Answer}
 use Rattle.spec.specs.Rules.{Call, RuleList, Capacity, opened, sections}
 use Rattle.spec.specs.Build.{built, built_sections, lists_to_add}
 use Rattle.spec.specs.Bytes.{lookup_bytes}
-use Rattle.spec.specs.Stores.{Store, Laws, Holds}
+use Rattle.spec.specs.Stores.{Store, Holds}
 use Rattle.spec.specs.Runs.{Kind, Run, RunsKeep}
 use Rattle.spec.specs.Promise.{StoreDelta, Agrees, EachSection}
 use Rattle.list_laws.specs.Answering.{Matched}

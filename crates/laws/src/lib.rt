@@ -1,4 +1,5 @@
 // What is proved of the definitions alone, with no program: one function a theorem, which its contract names.
+#![tactic(auto)]
 
 pub mod whole;
 

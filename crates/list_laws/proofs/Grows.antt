@@ -1,12 +1,12 @@
 -- Standing rules and groups grow by one more rule as an insertion makes them.
-use Rattle.std.proofs.Common.{◌≡◌, ℕ, Bool, true, false, ◌&&◌, ◌||◌, eqb, ltb, List, [], ◌∷◌, ◌++◌, reverse, sym, refl, ap, ◌∙◌, subst}
+use Rattle.std.proofs.Common.{◌≡◌, ℕ, Bool, true, false, ◌&&◌, ◌||◌, eqb, ltb, List, [], ◌∷◌, ◌++◌, sym, refl, ap, ◌∙◌, subst}
 use mathlib.Core.Bool.{or-false}
 use mathlib.Core.List.{reverse-append}
-use Rattle.spec.specs.Lists.{Every, has, inserted, replaced, sorted, same_list, list_before}
-use Rattle.spec.specs.Kinds.{SingleRule, Pair, standing_singles, standing_pairs, pair_before, joins, grouped, groups, cell_before, standing_cells}
+use Rattle.spec.specs.Lists.{has, inserted, replaced, sorted, same_list, list_before}
+use Rattle.spec.specs.Kinds.{Pair, pair_before, joins, grouped}
 use Rattle.list_laws.specs.Growing.{grown, SinglesGrow, PairsGrow, CellsGrow, GroupsGrow, LowestTells}
 use Rattle.list_laws.proofs.Orders.{Order, false_true}
-use Rattle.list_laws.proofs.Linear.{Linear, numbers_linear, lists_linear}
+use Rattle.list_laws.proofs.Linear.{numbers_linear, lists_linear}
 use Rattle.list_laws.proofs.Members.{some_none}
 use Rattle.list_laws.proofs.SingleAnswers.{rule_order}
 use Rattle.list_laws.proofs.PairAnswers.{cell_order}

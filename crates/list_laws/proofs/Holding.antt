@@ -1,8 +1,8 @@
 -- Ids that hold the delta lists handed over: shared out over rules, groups and sections, and what built records then give.
 use Rattle.std.proofs.Common.{◌≡◌, ℕ, ◌+◌, Bool, true, false, ◌||◌, List, [], ◌∷◌, ◌++◌, map, length, get_or, drop, ℤ, pos, Some, None, Option, sym, refl, ap, ◌∙◌, subst, ap₂, length-append}
 use Rattle.spec.specs.Lists.{Every, first, any, or_else, map_some, decided, concat}
-use Rattle.spec.specs.Entries.{Device, Delta, delta_at, value_at, no_device}
-use Rattle.spec.specs.Values.{Metric, ValueRecord, DeviceOrDeltas, device#, deltas#, DeviceOrVariationIndex, delta_list, delta_lists, built_metric, built_record, built_each, build_order}
+use Rattle.spec.specs.Entries.{Delta, delta_at}
+use Rattle.spec.specs.Values.{Metric, ValueRecord, DeviceOrDeltas, device#, deltas#, delta_list, delta_lists, built_metric, built_record, built_each}
 use Rattle.spec.specs.Rules.{RuleList}
 use Rattle.spec.specs.ListAnswer.{Adjustment, adjustment, adjustments}
 use Rattle.list_laws.specs.Says.{built_adjustment, built_adjustments}

@@ -1,6 +1,5 @@
 -- A list put in an order by keys: it rises, has each key once, and of equal keys the last element.
-use Rattle.std.proofs.Common.{◌≡◌, Bool, true, false, List, [], ◌∷◌, ◌++◌, map, Some, None, Option, sym, refl, ap, ◌∙◌, subst, arith}
-use Rattle.std.proofs.lemmas.Bool.Decides.{nat_tests}
+use Rattle.std.proofs.Common.{◌≡◌, Bool, true, false, List, [], ◌∷◌, Some, None, Option, sym, refl, ap, ◌∙◌, subst}
 use Rattle.spec.specs.Lists.{Every, first, last, or_else, inserted, sorted}
 pub use Rattle.list_laws.specs.Rising.{Rises}
 

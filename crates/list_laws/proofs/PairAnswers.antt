@@ -1,19 +1,19 @@
 -- The subtables of a pair lookup, tried in order, say what the rule list says.
-use Rattle.std.proofs.Common.{◌≡◌, ℕ, Bool, true, false, ◌&&◌, ◌||◌, eqb, ltb, ◌⊎◌, List, [], ◌∷◌, ◌++◌, map, reverse, length, get_or, drop, ℤ, Some, None, Option, sym, refl, ap, ◌∙◌, subst, ap₂, inl, inr}
-use Rattle.spec.specs.Lists.{Every, keep, first, last, any, has, or_else, map_some, decided, concat, sorted, same_list, list_before}
+use Rattle.std.proofs.Common.{◌≡◌, ℕ, Bool, true, false, ◌&&◌, ◌||◌, eqb, ltb, ◌⊎◌, List, [], ◌∷◌, map, reverse, length, get_or, drop, ℤ, Some, None, Option, sym, refl, ap, ◌∙◌, subst, ap₂, inl, inr}
+use Rattle.spec.specs.Lists.{keep, first, last, any, has, or_else, map_some, decided, concat, sorted}
 use Rattle.spec.specs.Entries.{delta_at}
 use Rattle.spec.specs.Values.{ValueRecord, DeviceOrDeltas, DeviceOrVariationIndex, PairOf, empty, format, delta_lists, pair_lists, built_pair, built_each}
 use Rattle.spec.specs.Rules.{RuleList, sections}
-use Rattle.spec.specs.Kinds.{Pair, PairRule, glyph_rules, class_rules, pair_before, standing_pairs, set_of, groups, cell_before, standing_cells, standing_groups}
+use Rattle.spec.specs.Kinds.{Pair, PairRule, glyph_rules, class_rules, standing_pairs, set_of, groups, cell_before, standing_cells, standing_groups}
 use Rattle.spec.specs.ListAnswer.{Adjustment, adjustments, pair_decides, rule_or_zeros, group_decides, section_decides, pair_answer}
-use Rattle.spec.specs.Build.{BuiltPair, Cell, PairSubtable, glyph_pairs, class_pairs, formats, formats_before, of_formats, pair_subtables, with_sets, class_subtable, pairs_lists, pair_build, lists_to_add, numbers_to_add, built, built_sections}
+use Rattle.spec.specs.Build.{BuiltPair, Cell, PairSubtable, formats, formats_before, of_formats, pair_subtables, with_sets, class_subtable, pairs_lists, pair_build, lists_to_add, numbers_to_add, built, built_sections}
 use Rattle.list_laws.specs.Says.{pair_says, pair_said, cell_or_zeros, built_adjustments}
 use Rattle.list_laws.specs.Answering.{Hold}
-use Rattle.list_laws.proofs.Orders.{Order, Rises, every_map, every_sorted, sorted_rises, first_sorted, false_true}
-use Rattle.list_laws.proofs.Linear.{Linear, numbers_linear, lists_linear, lex_linear, by_key, both}
+use Rattle.list_laws.proofs.Orders.{Order, every_map, sorted_rises, first_sorted, false_true}
+use Rattle.list_laws.proofs.Linear.{numbers_linear, lists_linear, lex_linear, by_key, both}
 use Rattle.list_laws.proofs.Within.{In}
 use Rattle.list_laws.proofs.Rising.{any_sorted}
-use Rattle.list_laws.proofs.Members.{Any, any_map, every_all, every_member, map_member, first_found, first_none, Unique, if_kept, first_keep, kept_or_none, decided_shared, decided_append, decided_concat, decided_same, decided_map, map_or_else, map_decided, map_map, last_reverse, rises_unique, sorted_has, any_mapped, first_mapped}
+use Rattle.list_laws.proofs.Members.{Any, any_map, every_all, every_member, map_member, first_found, first_none, Unique, if_kept, first_keep, kept_or_none, decided_shared, decided_append, decided_concat, decided_map, map_or_else, map_decided, map_map, last_reverse, rises_unique, sorted_has, any_mapped, first_mapped}
 use Rattle.list_laws.proofs.Holding.{HoldNumbers, matched_map, hold_front, hold_back, built_first, built_any, built_decided, built_rises, record_gives}
 use Rattle.list_laws.proofs.Sides.{BothApart, groups_apart}
 

@@ -1,6 +1,5 @@
 -- The tests for the same record, device and value are equality.
-use Rattle.std.proofs.Common.{◌≡◌, ℕ, Bool, true, false, cond, ◌&&◌, eqb, List, [], ◌∷◌, ℤ, pos, negsuc, Some, None, Option, sym, refl, ap, ◌∙◌, subst, ap₂, arith}
-use Rattle.std.proofs.lemmas.Bool.Decides.{nat_tests}
+use Rattle.std.proofs.Common.{◌≡◌, Bool, true, ◌&&◌, eqb, List, [], ◌∷◌, ℤ, pos, negsuc, Some, None, Option, refl, ap, ap₂}
 use Rattle.spec.specs.Fields.{same_signed}
 use Rattle.spec.specs.Entries.{Device, same_values, same_device}
 use Rattle.spec.specs.Values.{Metric, ValueRecord, DeviceOrVariationIndex, device, variation_index, same_beside, same_option, same_metric, same_record}

@@ -1,6 +1,6 @@
 -- The subtables of a single lookup, tried in order, say what the rule list says.
-use Rattle.std.proofs.Common.{◌≡◌, ℕ, Bool, true, false, not, ◌&&◌, ◌||◌, eqb, ltb, ◌⊎◌, List, [], ◌∷◌, ◌++◌, map, length, get_or, drop, ℤ, Some, None, Option, sym, refl, ap, ◌∙◌, subst, ap₂, inl, inr}
-use Rattle.spec.specs.Lists.{Every, keep, first, last, map_some, decided, concat, sorted}
+use Rattle.std.proofs.Common.{◌≡◌, ℕ, Bool, true, false, eqb, ltb, ◌⊎◌, List, [], ◌∷◌, map, length, get_or, ℤ, Some, None, Option, sym, refl, ap, ◌∙◌, subst, inl, inr}
+use Rattle.spec.specs.Lists.{Every, first, last, map_some, decided, concat}
 use Rattle.spec.specs.Entries.{delta_at}
 use Rattle.spec.specs.Values.{ValueRecord, DeviceOrDeltas, DeviceOrVariationIndex, SingleOf, single_lists, built_single, built_each}
 use Rattle.spec.specs.Rules.{RuleList, sections}
@@ -9,8 +9,8 @@ use Rattle.spec.specs.ListAnswer.{Adjustment, adjustments, single_decides, singl
 use Rattle.spec.specs.Build.{BuiltSingle, together, subtable_of, subtable_before, first_glyph, single_subtables, single_build, lists_to_add, numbers_to_add, built, built_sections}
 use Rattle.list_laws.specs.Says.{single_says, single_said, built_adjustments}
 use Rattle.list_laws.specs.Answering.{Hold}
-use Rattle.list_laws.proofs.Orders.{Order, Rises, every_map, every_sorted, sorted_rises, first_sorted, false_true}
-use Rattle.list_laws.proofs.Linear.{Linear, numbers_linear, falling_linear, lex_linear, by_key}
+use Rattle.list_laws.proofs.Orders.{Order, every_map, every_sorted, sorted_rises, first_sorted}
+use Rattle.list_laws.proofs.Linear.{numbers_linear, falling_linear, lex_linear, by_key}
 use Rattle.list_laws.proofs.Together.{together_is_equivalence}
 use Rattle.list_laws.proofs.Within.{In, every_keep, every_kept, every_over, same_tests}
 use Rattle.list_laws.proofs.Members.{Any, any_map, any_both, every_all, every_member, map_member, first_found, Unique, if_kept, first_keep, kept_or_none, keep_member, keep_same, unique_same, decided_shared, decided_concat, decided_same, map_decided, map_map, rises_unique, sorted_has}

@@ -1,10 +1,9 @@
 -- Coming to one single subtable is an equivalence of the glyphs of a section.
-use Rattle.std.proofs.Common.{◌≡◌, ℕ, ◌*◌, Bool, true, false, not, ◌&&◌, ◌||◌, eqb, ltb, List, sym, refl, ap, ◌∙◌, subst, arith}
+use Rattle.std.proofs.Common.{◌≡◌, ℕ, ◌*◌, Bool, true, false, not, ◌&&◌, ◌||◌, eqb, ltb, List, sym, refl, subst, arith}
 use Rattle.std.proofs.lemmas.Bool.Decides.{nat_tests}
 use Rattle.spec.specs.Lists.{count}
 use Rattle.spec.specs.Values.{ValueRecord, DeviceOrVariationIndex, format, encoded_size, same_record}
 use Rattle.spec.specs.Build.{BuiltSingle, Equivalence, together}
-use Rattle.list_laws.proofs.Orders.{false_true}
 use Rattle.list_laws.proofs.Sames.{record_same, record_self}
 
 -- over any values: the same, or neither large and of one format

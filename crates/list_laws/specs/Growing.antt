@@ -1,5 +1,5 @@
 -- How standing rules and groups grow by one more rule: what an insertion does to them.
-use Rattle.std.specs.Prelude.{◌≡◌, ℕ, Bool, true, false, ltb, List, [], ◌∷◌, ◌++◌, None, ◌==◌, nat_lt, slice_index}
+use Rattle.std.specs.Prelude.{◌≡◌, ℕ, true, false, ltb, List, [], ◌∷◌, ◌++◌, None, ◌==◌, nat_lt, slice_index}
 use Rattle.spec.specs.Lists.{inserted, replaced, has, same_list, list_before}
 use Rattle.spec.specs.Entries.{set_fault}
 use Rattle.spec.specs.Kinds.{SingleRule, Pair, standing_singles, standing_pairs, pair_before, joins, groups, cell_before, standing_cells}

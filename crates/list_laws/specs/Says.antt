@@ -1,6 +1,6 @@
 -- What built subtables say before they are bytes: of a glyph or two glyphs, at a pixel size and a region. `value` tells the delta
 -- that a store holds under an id at a region.
-use Rattle.std.specs.Prelude.{ℕ, Bool, true, false, ◌&&◌, List, [], ◌∷◌, map, ℤ, pos, Some, None, Option, ◌==◌, nat_eq}
+use Rattle.std.specs.Prelude.{ℕ, true, false, ◌&&◌, List, [], ◌∷◌, map, ℤ, pos, Some, None, Option, ◌==◌, nat_eq}
 use Rattle.spec.specs.Lists.{first, any, has, map_some, decided}
 use Rattle.spec.specs.Entries.{value_at}
 use Rattle.spec.specs.Values.{Metric, ValueRecord, DeviceOrVariationIndex, device, variation_index, empty, build_order}

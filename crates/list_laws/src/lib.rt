@@ -1,4 +1,5 @@
 // That the subtables of a build answer as the rule list does, proved of the definitions.
+#![tactic(auto)]
 
 pub mod growing;
 pub mod standing;

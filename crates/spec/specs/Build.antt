@@ -1,6 +1,6 @@
 -- What a build makes of a rule list: which delta lists go to the store, in which order, and the subtables, given the ids that
 -- the store answered. O is a kind's own sort of subtable.
-use Rattle.std.specs.Prelude.{◌≡◌, ℕ, ◌*◌, Bool, true, false, not, ◌&&◌, ◌||◌, List, [], ◌∷◌, ◌++◌, map, length, drop, ◌==◌, nat_eq, nat_lt, slice_index_or}
+use Rattle.std.specs.Prelude.{◌≡◌, ℕ, ◌*◌, Bool, true, not, ◌&&◌, ◌||◌, List, [], ◌∷◌, ◌++◌, map, length, drop, ◌==◌, nat_eq, nat_lt, slice_index_or}
 use Rattle.spec.specs.Lists.{keep, count, concat, rising, sorted}
 use Rattle.spec.specs.Entries.{Device, Delta}
 use Rattle.spec.specs.Values.{DeviceOrVariationIndex, SingleOf, PairOf, format, encoded_size, same_record, single_lists, pair_lists, built_single, built_pair, built_each}

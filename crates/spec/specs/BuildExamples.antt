@@ -1,5 +1,5 @@
 -- Worked examples of standing rules, the list's answer, build and bytes. Expected fields are worked out by hand from the formats.
-use Rattle.std.specs.Prelude.{◌≡◌, ℕ, List, [], ◌∷◌, ◌++◌, map, ℤ, pos, Some, None, Ok, Err, Option, Result}
+use Rattle.std.specs.Prelude.{◌≡◌, ℕ, List, [], ◌∷◌, ◌++◌, map, ℤ, pos, Some, None, Ok}
 use Rattle.spec.specs.Lists.{numbers}
 use Rattle.spec.specs.Fields.{big_endian}
 use Rattle.spec.specs.Values.{ValueRecord, DeviceOrDeltas, empty}

@@ -1,9 +1,9 @@
 -- The bytes of a lookup. A table is its fields in order; where an offset is written stands the child that it leads to.
-use Rattle.std.specs.Prelude.{ℕ, ◌+◌, ◌*◌, ◌/◌, ◌%◌, Bool, true, false, cond, ◌&&◌, ◌||◌, List, [], ◌∷◌, ◌++◌, map, length, Some, None, Option, ◌==◌, bit_or, nat_lt}
+use Rattle.std.specs.Prelude.{ℕ, ◌+◌, ◌/◌, ◌%◌, Bool, true, false, cond, ◌&&◌, ◌||◌, List, [], ◌∷◌, ◌++◌, map, length, Some, None, Option, ◌==◌, bit_or, nat_lt}
 use Rattle.spec.specs.Lists.{first, all, list_before, sorted, numbers}
 use Rattle.spec.specs.Fields.{big_endian, bits_of, Stand}
 use Rattle.spec.specs.Denials.{Word, Part, Denial, arises, at_place, when, prevailing}
-use Rattle.spec.specs.Values.{Metric, ValueRecord, DeviceOrVariationIndex, PairOf, empty, format, writing_order, same_record}
+use Rattle.spec.specs.Values.{Metric, ValueRecord, DeviceOrVariationIndex, empty, format, writing_order, same_record}
 use Rattle.spec.specs.Devices.{device_fields, variation_fields}
 use Rattle.spec.specs.Coverage.{ranges, coverage_format, coverage_count, coverage_entries}
 use Rattle.spec.specs.Classes.{rank, classed, glyphs_of, shorter_as_array, span, first_listed, class_array, class_range_fields}

@@ -1,6 +1,5 @@
 -- Short forms in which the examples are written.
 use Rattle.std.specs.Prelude.{ℕ, List, [], ◌∷◌, map, ℤ, pos, Some, None, Option}
-use Rattle.spec.specs.Denials.{Answer}
 use Rattle.spec.specs.Entries.{Delta}
 use Rattle.spec.specs.Values.{Metric, ValueRecord, DeviceOrDeltas, device#, deltas#, empty}
 use Rattle.spec.specs.Rules.{Call, RuleList, Capacity, opened, after_all, answers}

@@ -1,5 +1,5 @@
 -- The answers to calls. A denial tells a word, a place, the part that denied and how many layers passed it up.
-use Rattle.std.specs.Prelude.{ℕ, ◌+◌, min, Bool, true, false, ◌&&◌, ◌||◌, List, [], ◌∷◌, Some, None, codes, Option, ◌==◌, nat_le, nat_lt}
+use Rattle.std.specs.Prelude.{ℕ, ◌+◌, min, Bool, true, false, ◌&&◌, ◌||◌, List, Some, None, codes, Option, ◌==◌, nat_le, nat_lt}
 
 pub data Word : Type 0 where
   bad_set bad_device bad_deltas unknown_entry full no_section bad_flags store_full : Word

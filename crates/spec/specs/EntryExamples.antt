@@ -1,5 +1,5 @@
 -- Worked examples of entries, insertions and breaks, and of the denials that they get. All are equations that compute.
-use Rattle.std.specs.Prelude.{◌≡◌, ℕ, true, false, List, [], ◌∷◌, ◌++◌, map, length, replicate, pos, negsuc, Some, None, codes, Option}
+use Rattle.std.specs.Prelude.{◌≡◌, ℕ, true, false, [], ◌∷◌, ◌++◌, map, length, replicate, pos, negsuc, Some, None, codes}
 use Rattle.spec.specs.Lists.{numbers}
 use Rattle.spec.specs.Denials.{Word, Part, Answer, arises, passed, passed_by, prevailing, answer_number, answer_text, broken}
 use Rattle.spec.specs.Entries.{set_fault, device_fault, deltas_fault, delta_at, is_alike}

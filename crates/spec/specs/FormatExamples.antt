@@ -1,11 +1,11 @@
 -- Worked examples of the parts of a table: coverage, class definitions, devices, variation indices, marks, ceilings. Expected fields
 -- are worked out by hand from the formats.
-use Rattle.std.specs.Prelude.{◌≡◌, ℕ, ◌+◌, true, false, List, [], ◌∷◌, ◌++◌, map, replicate, ℤ, pos, negsuc, Some, None, Ok, Err, Option, Result}
+use Rattle.std.specs.Prelude.{◌≡◌, ℕ, ◌+◌, true, false, List, [], ◌∷◌, ◌++◌, map, replicate, pos, negsuc, Some, None, Ok}
 use Rattle.spec.specs.Lists.{numbers}
 use Rattle.spec.specs.Fields.{big_endian}
 use Rattle.spec.specs.Denials.{Word, Part, arises}
 use Rattle.spec.specs.Entries.{Device, value_at}
-use Rattle.spec.specs.Values.{ValueRecord, DeviceOrDeltas, empty, format, encoded_size}
+use Rattle.spec.specs.Values.{ValueRecord, DeviceOrDeltas, format, encoded_size}
 use Rattle.spec.specs.Coverage.{coverage_index}
 use Rattle.spec.specs.Classes.{span, class_of, classed}
 use Rattle.spec.specs.Devices.{device_fields}
@@ -13,9 +13,9 @@ use Rattle.spec.specs.Rules.{Call}
 use Rattle.spec.specs.Kinds.{SingleRule, PairRule}
 use Rattle.spec.specs.ListAnswer.{single_answer}
 use Rattle.spec.specs.Build.{single_build, pair_build, numbers_to_add, lists_to_add}
-use Rattle.spec.specs.Bytes.{Table, end, field, count, child, fields, bytes, too_many, too_far, coverage, class_def, lookup_table, write_denial}
+use Rattle.spec.specs.Bytes.{Table, end, field, count, child, fields, bytes, too_many, too_far, coverage, class_def, write_denial}
 use Rattle.spec.specs.Meaning.{no_id, covered, class, single_meaning, pair_meaning}
-use Rattle.spec.specs.Cases.{alone, with_device, with_deltas, x_advance, y_placement, entry, single, glyphs, kern, single_list, pair_list, single_bytes, pair_bytes, says, plain, reads, read, read_advance}
+use Rattle.spec.specs.Cases.{with_device, with_deltas, x_advance, y_placement, entry, single, glyphs, kern, single_list, pair_list, single_bytes, pair_bytes, says, plain, reads, read, read_advance}
 
 -- ---- coverage and class definitions at the bounds of their formats
 

@@ -1,7 +1,7 @@
 -- The list's answer: what a rule list says of a glyph or of two glyphs, at a pixel size and a region.
-use Rattle.std.specs.Prelude.{ℕ, Bool, true, false, ◌&&◌, List, [], ◌∷◌, map, ℤ, pos, Some, None, Option, ◌==◌, nat_eq, slice_index_or}
+use Rattle.std.specs.Prelude.{ℕ, true, false, ◌&&◌, List, [], ◌∷◌, map, ℤ, pos, Some, None, Option, ◌==◌, nat_eq, slice_index_or}
 use Rattle.spec.specs.Lists.{first, last, decided, or_else, map_some, any, has}
-use Rattle.spec.specs.Entries.{Device, Delta, value_at, delta_at, no_device}
+use Rattle.spec.specs.Entries.{value_at, delta_at, no_device}
 use Rattle.spec.specs.Values.{Metric, ValueRecord, DeviceOrDeltas, empty, build_order}
 use Rattle.spec.specs.Rules.{RuleList, sections}
 use Rattle.spec.specs.Kinds.{SingleRule, Pair, PairRule, glyph_rules, class_rules, groups, set_of}

@@ -1,5 +1,5 @@
 -- Words on lists that the other files use. All of them compute.
-use Rattle.std.specs.Prelude.{◌≡◌, ℕ, zero, suc, ◌+◌, Bool, true, false, ◌&&◌, ◌||◌, ltb, List, [], ◌∷◌, ◌++◌, Some, None, Option, ◌==◌, nat_eq, nat_lt}
+use Rattle.std.specs.Prelude.{ℕ, zero, suc, ◌+◌, Bool, true, false, ◌&&◌, ◌||◌, ltb, List, [], ◌∷◌, ◌++◌, Some, None, Option, ◌==◌, nat_eq, nat_lt}
 
 -- those that pass the test, in their order
 abbrev pub keep : {A : Type 0} → (A → Bool) → List A → List A

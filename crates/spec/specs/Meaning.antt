@@ -1,7 +1,7 @@
 -- What OpenType says that bytes mean, whoever made them. Every field is named by its byte position from the lookup's first byte.
 -- Fields are read in one fixed order, only those that are needed, and the first fault ends the reading with its position: a field
 -- that lies outside, a wrong lookup type, an unknown format, or the count that an index or a class is not below.
-use Rattle.std.specs.Prelude.{ℕ, zero, suc, ◌+◌, ◌-◌, ◌*◌, ◌/◌, ◌%◌, Bool, true, false, ◌&&◌, ◌||◌, List, [], ◌∷◌, get_or, ℤ, pos, Some, None, Ok, Err, Option, Result, ◌==◌, nat_le, nat_lt, slice_index_or}
+use Rattle.std.specs.Prelude.{ℕ, zero, suc, ◌+◌, ◌-◌, ◌*◌, ◌/◌, ◌%◌, true, false, ◌&&◌, ◌||◌, List, [], ◌∷◌, get_or, ℤ, pos, Some, None, Ok, Err, Option, Result, ◌==◌, nat_le, nat_lt, slice_index_or}
 use Rattle.spec.specs.Fields.{field, and_then, signed}
 use Rattle.spec.specs.Values.{ones, encoded_size}
 use Rattle.spec.specs.Devices.{per_word, unpack}

@@ -1,5 +1,5 @@
 -- THE PROMISE of a replay: calls, build, write and reading, over any kind of lookup and any store.
-use Rattle.std.specs.Prelude.{◌≡◌, ℕ, ◌<◌, Bool, true, false, ◌&&◌, List, [], ◌∷◌, ◌++◌, map, length, drop, replicate, ℤ, pos, Some, None, Ok, Err, Option, Result, ◌==◌, ◌≢◌, nat_eq, slice_index_or}
+use Rattle.std.specs.Prelude.{◌≡◌, ℕ, ◌<◌, true, false, ◌&&◌, List, [], ◌∷◌, ◌++◌, map, length, drop, replicate, ℤ, pos, Some, None, Ok, Err, Option, Result, ◌==◌, ◌≢◌, nat_eq, slice_index_or}
 use Rattle.spec.specs.Lists.{keep, count, sum_of, any, one_if, has, Every}
 use Rattle.spec.specs.Denials.{Denial, Answer, number, passed}
 use Rattle.spec.specs.Classes.{class_of}

@@ -1,5 +1,5 @@
 -- Each fault of reading, on the smallest table that has it, and what reading does not need. Fields are from OpenType's tables.
-use Rattle.std.specs.Prelude.{◌≡◌, ℕ, List, [], ◌∷◌, ℤ, pos, negsuc, Some, None, Ok, Err, Option, Result}
+use Rattle.std.specs.Prelude.{◌≡◌, ℕ, List, [], ◌∷◌, ℤ, pos, negsuc, Some, None, Ok, Err}
 use Rattle.spec.specs.Fields.{big_endian}
 use Rattle.spec.specs.Meaning.{Reading, no_id, covered, class, single_meaning, pair_meaning}
 use Rattle.spec.specs.Cases.{reads, read, read_advance}

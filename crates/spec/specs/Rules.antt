@@ -1,6 +1,6 @@
 -- The rule list: what was entered and inserted, known from the calls' arguments and from which calls were denied; and the exact
 -- answer to each entry, insertion and break. R is the sort of rule of a kind of lookup.
-use Rattle.std.specs.Prelude.{ℕ, suc, ◌+◌, ◌/◌, ◌%◌, min, Bool, true, false, not, ◌&&◌, ◌||◌, leb, List, [], ◌∷◌, ◌++◌, map, length, ℤ, Some, None, Option, ◌==◌, nat_le, nat_lt}
+use Rattle.std.specs.Prelude.{ℕ, suc, ◌/◌, ◌%◌, min, Bool, true, false, not, ◌&&◌, ◌||◌, leb, List, [], ◌∷◌, ◌++◌, map, length, ℤ, Some, None, Option, ◌==◌, nat_le, nat_lt}
 use Rattle.spec.specs.Lists.{any, sum_of, or_else, place_of, same_list, concat}
 use Rattle.spec.specs.Denials.{Word, Part, Denial, Answer, arises, when, at_place, passed_up, prevailing, is_denied}
 use Rattle.spec.specs.Entries.{Device, Delta, set_fault, device_fault, deltas_fault, same_device, same_deltas}

@@ -1,7 +1,7 @@
 -- Two whole runs over the flat store: one that ends at its accepted build, and one whose build is denied.
-use Rattle.std.specs.Prelude.{ℕ, List, [], ◌∷◌, pos, negsuc, Some, None, Option}
+use Rattle.std.specs.Prelude.{List, [], ◌∷◌, pos, negsuc, Some, None}
 use Rattle.spec.specs.Denials.{Word, Part, Answer, arises, passed}
-use Rattle.spec.specs.Rules.{Call, RuleList, opened, after_all}
+use Rattle.spec.specs.Rules.{Call, opened, after_all}
 use Rattle.spec.specs.Kinds.{SingleRule, PairRule}
 use Rattle.spec.specs.StoreModels.{Rows, flat}
 use Rattle.spec.specs.Runs.{Run}

@@ -1,5 +1,5 @@
 -- The marked settings in one table, and three readings that are inviting and wrong. All are equations that compute.
-use Rattle.std.specs.Prelude.{◌≡◌, ℕ, List, [], ◌∷◌, ◌++◌, length, ℤ, pos, negsuc, Some, None, Ok, Err, Option, Result}
+use Rattle.std.specs.Prelude.{◌≡◌, ℕ, List, [], ◌∷◌, ◌++◌, length, ℤ, pos, negsuc, Some, None, Ok}
 use Rattle.spec.specs.Fields.{big_endian}
 use Rattle.spec.specs.Devices.{delta_format, words, device_fields}
 use Rattle.spec.specs.Coverage.{coverage_format}

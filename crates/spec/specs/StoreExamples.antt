@@ -1,5 +1,5 @@
 -- Worked examples of the store models, and of a denial that a build passes up.
-use Rattle.std.specs.Prelude.{◌≡◌, List, [], ◌∷◌, pos, negsuc, Ok, Err, Result}
+use Rattle.std.specs.Prelude.{◌≡◌, List, [], ◌∷◌, pos, negsuc, Ok, Err}
 use Rattle.spec.specs.Denials.{Word, Part, arises, passed}
 use Rattle.spec.specs.Entries.{Delta}
 use Rattle.spec.specs.Runs.{at_list}

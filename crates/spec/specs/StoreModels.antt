@@ -1,6 +1,6 @@
 -- Models of the stores, as functions that compute: the flat store, the sharing store, and the trim layer over any store. They show
 -- that what a store means can be met, and give the ids of the examples.
-use Rattle.std.specs.Prelude.{◌≡◌, ℕ, zero, suc, ◌+◌, ◌-◌, ◌<◌, true, false, not, List, [], ◌∷◌, ◌++◌, length, ℤ, pos, Some, None, Ok, Err, Option, Result, slice_index_or}
+use Rattle.std.specs.Prelude.{◌≡◌, ℕ, zero, suc, ◌+◌, ◌<◌, not, List, [], ◌∷◌, ◌++◌, length, ℤ, pos, Some, None, Ok, Err, Result, slice_index_or}
 use Rattle.spec.specs.Lists.{keep, place_of}
 use Rattle.spec.specs.Fields.{same_signed}
 use Rattle.spec.specs.Denials.{Word, Part, Denial, arises, passed}

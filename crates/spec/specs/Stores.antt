@@ -1,5 +1,5 @@
 -- What a variation store means, and what its calls may do. S is any type of store, a stack of layers too.
-use Rattle.std.specs.Prelude.{◌≡◌, ℕ, ◌+◌, ◌<◌, min, ◌⊎◌, List, [], ◌∷◌, ◌++◌, length, ℤ, Some, None, Ok, Err, Option, Result}
+use Rattle.std.specs.Prelude.{◌≡◌, ℕ, ◌+◌, ◌<◌, min, ◌⊎◌, List, [], ◌∷◌, ◌++◌, length, ℤ, Some, None, Ok, Err, Result}
 use Rattle.spec.specs.Denials.{Word, Part, Denial, arises, passed_by}
 use Rattle.spec.specs.Entries.{Delta, delta_at, deltas_fault, Alike}
 use Rattle.spec.specs.Meaning.{no_id}

@@ -1,4 +1,5 @@
 // The definitions that everything else is proved against. Each function below carries examples of them, which compute.
+#![tactic(auto)]
 
 ghost use Rattle.spec.specs.Settings.{Settings, InvitingMistakes};
 ghost use Rattle.spec.specs.EntryExamples.{Faults, Fills, Unknowns, Openings};

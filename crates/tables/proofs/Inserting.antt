@@ -1,20 +1,20 @@
 -- What the calls of an ordered table answer and leave, from where the key stands.
-use Rattle.std.proofs.Common.{◌≡◌, ℕ, ◌+◌, ◌-◌, ◌<◌, ◌≤◌, min, Bool, true, false, ltb, ◌⊎◌, List, [], ◌∷◌, ◌++◌, length, get_or, take, set, Some, None, Ok, Err, Option, Result, Ordering, Less, Equal, Greater, sym, refl, ap, ◌∙◌, subst, inl, inr, arith, ltb-false, ltb-true, le-ltb, lt-ltb, MatchResult}
+use Rattle.std.proofs.Common.{◌≡◌, ℕ, ◌+◌, ◌<◌, ◌≤◌, true, false, ltb, ◌⊎◌, List, [], ◌∷◌, length, get_or, take, set, Some, None, Ok, Err, Option, Result, Ordering, Less, sym, ap, ◌∙◌, inl, inr, arith, ltb-false, ltb-true, le-ltb, lt-ltb, MatchResult}
 use Rattle.std.specs.List.{insert}
 use Rattle.std.specs.Ordering.{is_lt, ordering_reverse}
 use Rattle.std.proofs.lemmas.List.Edits.{length-insert}
-use Rattle.std.proofs.lemmas.List.{length-take-le, get_or-take}
+use Rattle.std.proofs.lemmas.List.{length-take-le}
 use Rattle.std.proofs.lemmas.Bool.{cases_order}
 use Rattle.spec.specs.Denials.{Word, Part, Denial, Answer, arises, when}
 use Rattle.spec.specs.Lists.{map_some}
 use Rattle.denials.specs.declared.denial.Denial as code_denial
 use Rattle.tables.specs.declared.table.OrderedTable.{OrderedTable}
-use Rattle.denials.specs.Answers.{call_answer, denied_or, left_by}
+use Rattle.denials.specs.Answers.{denied_or, left_by}
 use Rattle.spec.specs.Lists.{at}
-use Rattle.tables.specs.Tables.{below, picked, pairs, most, rises, lookup, with_value, at_or_above, full_denial, Past, Placed, Sound, Ordered, Added, Inserted}
+use Rattle.tables.specs.Tables.{below, picked, pairs, most, rises, lookup, with_value, at_or_above, full_denial, Placed, Sound, Ordered, Added, Inserted}
 use Rattle.list_laws.proofs.Cuts.{at_getD}
 use Rattle.tables.proofs.KeyOrder.{lookup_at, above_at, rises_put, apart}
-use Rattle.tables.proofs.Picks.{below_wider, below_at, length_picked, get_d_picked, picked_set}
+use Rattle.tables.proofs.Picks.{below_wider, length_picked, get_d_picked, picked_set}
 use Rattle.tables.proofs.Puts.{value_set}
 
 -- a place among fewer is a place among more

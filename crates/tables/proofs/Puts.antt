@@ -3,7 +3,7 @@ use Rattle.std.proofs.Common.{◌≡◌, ℕ, zero, suc, ◌<◌, ◌≤◌, Boo
 use Rattle.std.specs.Ordering.{is_lt, ordering_reverse}
 use Rattle.std.proofs.lemmas.List.{set-get_or}
 use Rattle.spec.specs.Lists.{inserted, replaced}
-use Rattle.tables.specs.Tables.{before, with_value, Past, Placed}
+use Rattle.tables.specs.Tables.{before, with_value, Placed}
 use Rattle.tables.proofs.KeyOrder.{tail_past}
 
 -- `inserted` and `replaced` in one: `pick` says which of two that are equal stays

@@ -1,4 +1,5 @@
 // Pairs in key order over memory that the caller brings.
+#![tactic(auto)]
 
 pub mod key;
 mod rows;

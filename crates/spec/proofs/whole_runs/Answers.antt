@@ -1,7 +1,7 @@
-use Rattle.std.proofs.Common.{[], ◌∷◌, pos, refl, inl, inr}
+use Rattle.std.proofs.Common.{[], ◌∷◌, pos, refl, inr}
 use Rattle.spec.specs.Denials.{Word, Part, arises, passed}
 use Rattle.spec.specs.Cases.{entry}
-use Rattle.spec.specs.Runs.{Run, ends, builds, goes}
+use Rattle.spec.specs.Runs.{ends, builds, goes}
 use Rattle.spec.specs.RunExamples.{no_place}
 use Rattle.spec.proofs.whole_runs.Goals as goal
 

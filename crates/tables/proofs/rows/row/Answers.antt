@@ -1,4 +1,4 @@
-use Rattle.std.proofs.Common.{◌≡◌, ◌<◌, ◌≤◌, length, arith}
+use Rattle.std.proofs.Common.{◌<◌, ◌≤◌, length, arith}
 use Rattle.tables.specs.Tables.{picked}
 use Rattle.list_laws.proofs.Cuts.{at_past, at_read}
 use Rattle.tables.proofs.Picks.{below_at, length_picked, read_picked}

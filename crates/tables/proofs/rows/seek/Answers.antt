@@ -1,5 +1,5 @@
-use Rattle.std.proofs.Common.{◌≡◌, ℕ, ◌+◌, ◌-◌, ◌/◌, ◌<◌, ◌≤◌, true, length, get_or, Less, Equal, Greater, subst, not-suc-le-zero, arith}
-use Rattle.tables.specs.Tables.{below, picked}
+use Rattle.std.proofs.Common.{◌≡◌, ℕ, ◌+◌, ◌-◌, ◌/◌, ◌<◌, ◌≤◌, length, get_or, Less, Equal, subst, not-suc-le-zero, arith}
+use Rattle.tables.specs.Tables.{picked}
 use Rattle.tables.proofs.KeyOrder.{past_more, past_same, read_at}
 use Rattle.tables.proofs.Picks.{below_at, length_picked, read_picked}
 use Rattle.tables.proofs.rows.seek.Goals as goal

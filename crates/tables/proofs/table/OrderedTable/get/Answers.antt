@@ -1,4 +1,4 @@
-use Rattle.std.proofs.Common.{◌≡◌, sym, ap, ◌∙◌}
+use Rattle.std.proofs.Common.{sym, ap, ◌∙◌}
 use Rattle.spec.specs.Lists.{map_some}
 use Rattle.tables.specs.Tables.{pairs}
 use Rattle.tables.proofs.Inserting.{at_lookup}

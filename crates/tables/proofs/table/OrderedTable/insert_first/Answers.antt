@@ -1,4 +1,4 @@
-use Rattle.std.proofs.Common.{◌≡◌, length, sym, refl, ap, ◌∙◌}
+use Rattle.std.proofs.Common.{length, sym, refl, ap, ◌∙◌}
 use Rattle.tables.specs.Tables.{pairs, Ordered}
 use Rattle.tables.proofs.Inserting.{taken_same, inserted_new}
 use Rattle.tables.proofs.Puts.{first_old, first_new}

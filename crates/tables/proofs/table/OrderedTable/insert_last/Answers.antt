@@ -1,4 +1,4 @@
-use Rattle.std.proofs.Common.{◌≡◌, length, sym, ap, ◌∙◌}
+use Rattle.std.proofs.Common.{length, sym, ap, ◌∙◌}
 use Rattle.tables.specs.Tables.{pairs, Ordered}
 use Rattle.tables.proofs.Inserting.{taken_same, inserted_new}
 use Rattle.tables.proofs.Puts.{last_old, last_new, length_value}

@@ -1,6 +1,6 @@
-use Rattle.std.proofs.Common.{◌≡◌, ◌<◌, ◌≤◌, min, length, get_or, take, set, refl, ap, ◌∙◌, arith, length-set}
+use Rattle.std.proofs.Common.{◌<◌, ◌≤◌, min, length, get_or, take, set, refl, ap, ◌∙◌, arith, length-set}
 use Rattle.std.proofs.lemmas.List.{get_or-take}
-use Rattle.tables.specs.Tables.{pairs, rises, with_value, Ordered}
+use Rattle.tables.specs.Tables.{pairs, rises, Ordered}
 use Rattle.tables.proofs.Inserting.{wide, length_numbers, length_pairs, set_value}
 use Rattle.tables.proofs.KeyOrder.{rises_value}
 use Rattle.tables.proofs.Picks.{below_at}
