@@ -15,13 +15,13 @@ loop-d-preserved c =
           let b : n < length c.loop-d.room = omega (arith, c.requires, c.loop-d.invariant.0, c.loop-d.invariant.1, c.loop-d-test.true) in (
             omega (arith, w.n-is),
             c.if-d-ne0.array_long,
-            kept_as l (i + 1) w.room_is w.n-is (kept_more l c.loop-d.room i n c.loop-d.invariant.2 c.loop-d-test.true b (nonzero_bits _ w.if-d-ne0.true)),
+            kept_as l (i + 1) w.room-is w.n-is (kept_more l c.loop-d.room i n c.loop-d.invariant.2 c.loop-d-test.true b (nonzero_bits _ w.if-d-ne0.true)),
           )
       | else-d-ne0 w ↦
           let f : SFits w16 (get_or l i no_delta).delta = search rules in (
             omega (arith, w.n-is),
             c.if-d-ne0.array_long,
-            kept_as l (i + 1) w.room_is w.n-is (dropped_more l c.loop-d.room i n c.loop-d.invariant.2 c.loop-d-test.true (zero_bits _ f w.if-d-ne0.false)),
+            kept_as l (i + 1) w.room-is w.n-is (dropped_more l c.loop-d.room i n c.loop-d.invariant.2 c.loop-d-test.true (zero_bits _ f w.if-d-ne0.false)),
           )
     ]
 

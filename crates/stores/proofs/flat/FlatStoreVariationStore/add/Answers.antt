@@ -7,8 +7,8 @@ use Rattle.stores.proofs.Faults.{few_entries}
 use Rattle.stores.proofs.Meant.{flat_takes, flat_does}
 use Rattle.stores.proofs.flat.FlatStoreVariationStore.add.Goals as goal
 
-pub take-place-requires : goal.take-place-requires
-take-place-requires c = few_entries c.args.list.now c.in-None.ensures
+pub take_place-requires : goal.take_place-requires
+take_place-requires c = few_entries c.args.list.now c.in-None.ensures
 
 pub returns-in-None : goal.returns-in-None
 returns-in-None c =

@@ -6,5 +6,5 @@ pub returns : goal.returns
 returns c =
     let ps = c.args.self.now.places.now in
     let id = c.args.self.now.used in
-    let room = room_left ps id c.if-is-full.ensures in
+    let room = room_left ps id c.if-is_full.ensures in
     placed ps id c.of.result (deltas_of c.args.list.now) room.0 room.1 c.of.ensures
