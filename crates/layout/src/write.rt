@@ -45,7 +45,7 @@ pub trait FontRead: FontWrite {
 
 // Writes a part over the front of the bytes, and tells how many it took. Denied, all bytes are zero.
 pub fn write_part<T: FontWrite>(part: &T, bytes: &mut [u8]) -> Result<usize, Denial>
-    ensures { Written (fault part.now) result bytes.old bytes.new (big_endian (encoded part.now)) }
+    ensures { Written (T.FontWrite.fault part.now) result bytes.old bytes.new (big_endian (T.FontWrite.encoded part.now)) }
 {
     let mut out = Output::new(bytes);
     part.write_into(&mut out)?;

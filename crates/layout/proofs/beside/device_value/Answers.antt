@@ -5,6 +5,6 @@ use Rattle.layout.proofs.beside.device_value.Goals as goal
 
 pub returns : goal.returns
 returns c =
-    let f : SFits w8 c.value-in.result = search rules in
-    at_size c.args.bytes.now c.args.ppem c.args.at c.args.sizes.0 c.args.sizes.1 c.args.format c.widths-per-word.result.1 c.in-ok-word.word _ _ (omega arith) (omega arith)
-    c.widths-per-word.ensures.values c.in-ok-word.ensures c.value-in.ensures (to_z-of_z w8 _ f)
+    let f : SFits w8 c.value_in.result = search rules in
+    at_size c.args.bytes.now c.args.ppem c.args.at c.args.sizes.0 c.args.sizes.1 c.args.format c.widths-per_word.result.1 c.in_ok-word.word _ _ (omega arith) (omega arith)
+    c.widths-per_word.ensures.values c.in_ok-word.ensures c.value_in.ensures (to_z-of_z w8 _ f)

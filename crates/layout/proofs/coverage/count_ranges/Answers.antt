@@ -1,15 +1,15 @@
 use Rattle.std.proofs.Common.{refl, ap, arith}
 use Rattle.layout.proofs.Gathering.{one, counts_none, counts_next, counted}
 use Rattle.layout.proofs.coverage.count_ranges.Goals as goal
-use Rattle.layout.proofs.coverage.count_ranges.Goals.{then-is-some, else-is-some}
+use Rattle.layout.proofs.coverage.count_ranges.Goals.{then-is_some, else-is_some}
 
 pub loop-glyph-init : goal.loop-glyph-init
 loop-glyph-init c = counts_none (λ g. (g, 0)) 0 c.args.glyphs.now
 
 pub loop-glyph-preserved : goal.loop-glyph-preserved
-loop-glyph-preserved c = elim c.if-is-some.branch [
-  | then-is-some w ↦ counts_next (λ g. (g, 0)) 0 c.args.glyphs.now c.loop-glyph.invariant c.loop-glyph-test.true c.next-next.result c.next-next.ensures refl (omega (arith, w.count_is, ap one w.if-is-some.ensures))
-  | else-is-some w ↦ counts_next (λ g. (g, 0)) 0 c.args.glyphs.now c.loop-glyph.invariant c.loop-glyph-test.true c.next-next.result c.next-next.ensures refl (omega (arith, w.count_is, ap one w.if-is-some.ensures))
+loop-glyph-preserved c = elim c.if-is_some.branch [
+  | then-is_some w ↦ counts_next (λ g. (g, 0)) 0 c.args.glyphs.now c.loop-glyph.invariant c.loop-glyph-test.true c.next-next.result c.next-next.ensures refl (omega (arith, w.count-is, ap one w.if-is_some.ensures))
+  | else-is_some w ↦ counts_next (λ g. (g, 0)) 0 c.args.glyphs.now c.loop-glyph.invariant c.loop-glyph-test.true c.next-next.result c.next-next.ensures refl (omega (arith, w.count-is, ap one w.if-is_some.ensures))
 ]
 
 pub returns-in-Empty : goal.returns-in-Empty

@@ -13,7 +13,7 @@ loop-value-init c = let b = format_bounds c.args.values.now in (omega arith, ome
 pub loop-value-preserved : goal.loop-value-preserved
 loop-value-preserved c =
     let f : SFits w8 (get_or c.args.values.now c.loop-value.value-index (pos 0)) = search rules in
-    let e : c.format-for.result ≡ needed_format (get_or c.args.values.now c.loop-value.value-index (pos 0)) = c.format-for.ensures ∙ ap needed_format (to_z-of_z w8 _ f) in
+    let e : c.format_for.result ≡ needed_format (get_or c.args.values.now c.loop-value.value-index (pos 0)) = c.format_for.ensures ∙ ap needed_format (to_z-of_z w8 _ f) in
     let b = asks_bounds (get_or c.args.values.now c.loop-value.value-index (pos 0)) in
     let m = format_more c.args.values.now c.loop-value.value-index c.loop-value-test.true in
     let i = c.loop-value.invariant in

@@ -7,22 +7,22 @@ use Rattle.spec.specs.Devices.{pack}
 use Rattle.layout.proofs.Packing.{low_below, add_step, word_more}
 use Rattle.layout.proofs.delta_words.pack_word.Goals as goal
 
-is_low : (c : goal.After-low-bits) → c.low-bits.result ≡ bits_of c.args.width (get_or c.args.values.now c.loop-value.value-index (pos 0))
+is_low : (c : goal.After-low_bits) → c.low_bits.result ≡ bits_of c.args.width (get_or c.args.values.now c.loop-value.value-index (pos 0))
 is_low c =
     let f : SFits w8 (get_or c.args.values.now c.loop-value.value-index (pos 0)) = search rules in
-    c.low-bits.ensures ∙ ap (bits_of c.args.width) (to_z-of_z w8 _ f)
+    c.low_bits.ensures ∙ ap (bits_of c.args.width) (to_z-of_z w8 _ f)
 
-low_lt : (c : goal.After-low-bits) → c.low-bits.result < 2 ^ c.args.width
+low_lt : (c : goal.After-low_bits) → c.low_bits.result < 2 ^ c.args.width
 low_lt c = subst (λ x. x < 2 ^ c.args.width) (sym (is_low c)) (low_below c.args.width (get_or c.args.values.now c.loop-value.value-index (pos 0)))
 
-within : (c : goal.After-low-bits) → c.args.width ≤ c.loop-value.shift
+within : (c : goal.After-low_bits) → c.args.width ≤ c.loop-value.shift
 within c = search rules
 
-pub overflow-add-word : goal.overflow-add-word
-overflow-add-word c =
+pub overflow_add-word : goal.overflow_add-word
+overflow_add-word c =
     let i = c.loop-value.invariant in
     let s : c.loop-value.shift ≤ 16 = omega arith in
-    let a = add_step c.args.width c.loop-value.shift c.loop-value.word c.low-bits.result (within c) s (low_lt c) i.1 in
+    let a = add_step c.args.width c.loop-value.shift c.loop-value.word c.low_bits.result (within c) s (low_lt c) i.1 in
     omega (arith, pow_pos (c.loop-value.shift - c.args.width))
 
 pub loop-value-preserved : goal.loop-value-preserved
@@ -30,7 +30,7 @@ loop-value-preserved c =
     let i = c.loop-value.invariant in
     let s : c.loop-value.shift ≤ 16 = omega arith in
     let x = within c in
-    let a = add_step c.args.width c.loop-value.shift c.loop-value.word c.low-bits.result x s (low_lt c) i.1 in
+    let a = add_step c.args.width c.loop-value.shift c.loop-value.word c.low_bits.result x s (low_lt c) i.1 in
     let m = word_more c.args.width c.loop-value.shift c.args.values.now c.loop-value.value-index c.loop-value-test.true i.0 in
     let e = ap (λ n. n * 2 ^ (c.loop-value.shift - c.args.width)) (is_low c) in
     (omega (arith, mul-add c.args.width c.loop-value.value-index 1), a.1, omega arith)

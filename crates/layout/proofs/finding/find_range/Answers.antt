@@ -3,29 +3,29 @@ use Rattle.std.proofs.lemmas.Result.{err_from_is_err_and}
 use Rattle.layout.proofs.Searching.{start_fault, end_fault, third_fault, range_found, start_above, end_below}
 use Rattle.layout.proofs.finding.find_range.Goals as goal
 
-pub returns-in-err-start : goal.returns-in-err-start
-returns-in-err-start c =
-    let p = err_from_is_err_and c.from-residual.result c.from-residual.ensures.1 in
-    let o = start_fault c.args.bytes.now c.args.glyph c.args.at c.loop-i.i c.args.count c.loop-i-test.true _ c.in-err-start.ensures in cc
+pub returns-in_err-start : goal.returns-in_err-start
+returns-in_err-start c =
+    let p = err_from_is_err_and c.from_residual.result c.from_residual.ensures.1 in
+    let o = start_fault c.args.bytes.now c.args.glyph c.args.at c.loop-i.i c.args.count c.loop-i-test.true _ c.in_err-start.ensures in cc
 
 pub loop-i-preserved-then-start-glyph : goal.loop-i-preserved-then-start-glyph
 loop-i-preserved-then-start-glyph c =
-    let o = start_above c.args.bytes.now c.args.glyph c.args.at c.loop-i.i c.args.count c.loop-i-test.true _ c.in-ok-start.ensures (omega arith) in cc
+    let o = start_above c.args.bytes.now c.args.glyph c.args.at c.loop-i.i c.args.count c.loop-i-test.true _ c.in_ok-start.ensures (omega arith) in cc
 
-pub returns-in-err-end : goal.returns-in-err-end
-returns-in-err-end c =
-    let p = err_from_is_err_and c.from-residual-in-err-end.result c.from-residual-in-err-end.ensures.1 in
-    let o = end_fault c.args.bytes.now c.args.glyph c.args.at c.loop-i.i c.args.count c.loop-i-test.true _ _ c.in-ok-start.ensures (omega arith) c.in-err-end.ensures in cc
+pub returns-in_err-end : goal.returns-in_err-end
+returns-in_err-end c =
+    let p = err_from_is_err_and c.from_residual-in_err-end.result c.from_residual-in_err-end.ensures.1 in
+    let o = end_fault c.args.bytes.now c.args.glyph c.args.at c.loop-i.i c.args.count c.loop-i-test.true _ _ c.in_ok-start.ensures (omega arith) c.in_err-end.ensures in cc
 
 pub loop-i-preserved : goal.loop-i-preserved
 loop-i-preserved c =
-    let o = end_below c.args.bytes.now c.args.glyph c.args.at c.loop-i.i c.args.count c.loop-i-test.true _ _ c.in-ok-start.ensures (omega arith) c.in-ok-end.ensures (omega arith) in cc
+    let o = end_below c.args.bytes.now c.args.glyph c.args.at c.loop-i.i c.args.count c.loop-i-test.true _ _ c.in_ok-start.ensures (omega arith) c.in_ok-end.ensures (omega arith) in cc
 
-pub returns-in-err-third : goal.returns-in-err-third
-returns-in-err-third c =
-    let p = err_from_is_err_and c.from-residual-in-err-third.result c.from-residual-in-err-third.ensures.1 in
-    let o = third_fault c.args.bytes.now c.args.glyph c.args.at c.loop-i.i c.args.count c.loop-i-test.true _ _ _ c.in-ok-start.ensures (omega arith) c.in-ok-end.ensures (omega arith) c.in-err-third.ensures in cc
+pub returns-in_err-third : goal.returns-in_err-third
+returns-in_err-third c =
+    let p = err_from_is_err_and c.from_residual-in_err-third.result c.from_residual-in_err-third.ensures.1 in
+    let o = third_fault c.args.bytes.now c.args.glyph c.args.at c.loop-i.i c.args.count c.loop-i-test.true _ _ _ c.in_ok-start.ensures (omega arith) c.in_ok-end.ensures (omega arith) c.in_err-third.ensures in cc
 
 pub returns-in-loop-i : goal.returns-in-loop-i
 returns-in-loop-i c =
-    let o = range_found c.args.bytes.now c.args.glyph c.args.at c.loop-i.i c.args.count c.loop-i-test.true _ _ _ c.in-ok-start.ensures (omega arith) c.in-ok-end.ensures (omega arith) c.in-ok-third.ensures in cc
+    let o = range_found c.args.bytes.now c.args.glyph c.args.at c.loop-i.i c.args.count c.loop-i-test.true _ _ _ c.in_ok-start.ensures (omega arith) c.in_ok-end.ensures (omega arith) c.in_ok-third.ensures in cc

@@ -1,15 +1,15 @@
 use Rattle.std.proofs.Common.{refl, ap, arith}
 use Rattle.layout.proofs.Gathering.{one, counts_none, counts_next, counted}
 use Rattle.layout.proofs.glyph_class.count_ranges.Goals as goal
-use Rattle.layout.proofs.glyph_class.count_ranges.Goals.{then-is-some, else-is-some}
+use Rattle.layout.proofs.glyph_class.count_ranges.Goals.{then-is_some, else-is_some}
 
 pub loop-entry-init : goal.loop-entry-init
 loop-entry-init c = counts_none (λ e. (e.glyph, e.class)) (record { glyph = 0; class = 0 }) c.args.classes.now
 
 pub loop-entry-preserved : goal.loop-entry-preserved
-loop-entry-preserved c = elim c.if-is-some.branch [
-  | then-is-some w ↦ counts_next (λ e. (e.glyph, e.class)) (record { glyph = 0; class = 0 }) c.args.classes.now c.loop-entry.invariant c.loop-entry-test.true c.next-next.result c.next-next.ensures refl (omega (arith, w.count_is, ap one w.if-is-some.ensures))
-  | else-is-some w ↦ counts_next (λ e. (e.glyph, e.class)) (record { glyph = 0; class = 0 }) c.args.classes.now c.loop-entry.invariant c.loop-entry-test.true c.next-next.result c.next-next.ensures refl (omega (arith, w.count_is, ap one w.if-is-some.ensures))
+loop-entry-preserved c = elim c.if-is_some.branch [
+  | then-is_some w ↦ counts_next (λ e. (e.glyph, e.class)) (record { glyph = 0; class = 0 }) c.args.classes.now c.loop-entry.invariant c.loop-entry-test.true c.next-next.result c.next-next.ensures refl (omega (arith, w.count-is, ap one w.if-is_some.ensures))
+  | else-is_some w ↦ counts_next (λ e. (e.glyph, e.class)) (record { glyph = 0; class = 0 }) c.args.classes.now c.loop-entry.invariant c.loop-entry-test.true c.next-next.result c.next-next.ensures refl (omega (arith, w.count-is, ap one w.if-is_some.ensures))
 ]
 
 pub returns-in-Empty : goal.returns-in-Empty

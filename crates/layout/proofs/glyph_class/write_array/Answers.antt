@@ -11,24 +11,24 @@ loop-k-init c = (
   at_first c.args.classes.now c.args.first c.requires.rises c.requires.first,
 )
 
-pub overflow-add-place : goal.overflow-add-place
-overflow-add-place c =
-    let s = at_next c.args.classes.now c.loop-k.place (c.args.first + c.loop-k.k) c.loop-k.invariant.1 c.class-here-class.result c.class-here-class.ensures in
+pub overflow_add-place : goal.overflow_add-place
+overflow_add-place c =
+    let s = at_next c.args.classes.now c.loop-k.place (c.args.first + c.loop-k.k) c.loop-k.invariant.1 c.class_here-class.result c.class_here-class.ensures in
     omega (arith, s.at.inside)
 
 pub loop-k-preserved : goal.loop-k-preserved
 loop-k-preserved c =
-    let s = at_next c.args.classes.now c.loop-k.place (c.args.first + c.loop-k.k) c.loop-k.invariant.1 c.class-here-class.result c.class-here-class.ensures in
+    let s = at_next c.args.classes.now c.loop-k.place (c.args.first + c.loop-k.k) c.loop-k.invariant.1 c.class_here-class.result c.class_here-class.ensures in
     let a : c.args.first + c.loop-k.k + 1 ≡ c.args.first + (c.loop-k.k + 1) = omega arith in (
-      more c.loop-k.invariant.0 _ _ (classes_next (listed c.args.classes.now) c.args.first c.loop-k.k c.args.span _ c.loop-k-test.true s.class) c.in-ok-field.ensures,
-      subst (λ g. At c.args.classes.now (c.loop-k.place + c.class-here-class.result.1) g) a s.at,
+      more c.loop-k.invariant.0 _ _ (classes_next (listed c.args.classes.now) c.args.first c.loop-k.k c.args.span _ c.loop-k-test.true s.class) c.in_ok-field.ensures,
+      subst (λ g. At c.args.classes.now (c.loop-k.place + c.class_here-class.result.1) g) a s.at,
     )
 
-pub returns-in-err-field : goal.returns-in-err-field
-returns-in-err-field c =
-    let s = at_next c.args.classes.now c.loop-k.place (c.args.first + c.loop-k.k) c.loop-k.invariant.1 c.class-here-class.result c.class-here-class.ensures in
-    let p = err_from_is_err_and c.from-residual.result c.from-residual.ensures.1 in
-    fails c.loop-k.invariant.0 c.from-residual.result _ _ (classes_next (listed c.args.classes.now) c.args.first c.loop-k.k c.args.span _ c.loop-k-test.true s.class) c.in-err-field.ensures _ p.1 p.2
+pub returns-in_err-field : goal.returns-in_err-field
+returns-in_err-field c =
+    let s = at_next c.args.classes.now c.loop-k.place (c.args.first + c.loop-k.k) c.loop-k.invariant.1 c.class_here-class.result c.class_here-class.ensures in
+    let p = err_from_is_err_and c.from_residual.result c.from_residual.ensures.1 in
+    fails c.loop-k.invariant.0 c.from_residual.result _ _ (classes_next (listed c.args.classes.now) c.args.first c.loop-k.k c.args.span _ c.loop-k-test.true s.class) c.in_err-field.ensures _ p.1 p.2
 
 pub returns : goal.returns
 returns c = ends c.loop-k.invariant.0 (classes_done (listed c.args.classes.now) _ c.loop-k.k c.args.span c.loop-k-test.false)
