@@ -1,5 +1,5 @@
 -- The fields of a coverage table in either format.
-use Rattle.std.proofs.Common.{◌≡◌, ℕ, suc, ◌+◌, ◌-◌, ◌*◌, ◌<◌, ◌≤◌, Bool, true, false, cond, List, [], ◌∷◌, ◌++◌, length, None, Ok, sym, refl, ap, ◌∙◌, subst, arith}
+use Rattle.std.proofs.Common.{◌≡◌, ℕ, ◌+◌, ◌-◌, ◌*◌, Bool, true, false, cond, List, [], ◌∷◌, ◌++◌, length, None, Ok, sym, refl, ap, ◌∙◌, arith}
 use Rattle.spec.specs.Fields.{big_endian, Stand}
 use Rattle.spec.specs.Coverage.{Range, glyph_ranges, range_fields, shorter_as_ranges, coverage_format, coverage_count, coverage_entries, coverage_index}
 use Rattle.spec.specs.Bytes.{own, coverage}

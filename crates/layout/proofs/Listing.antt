@@ -1,9 +1,7 @@
 -- Glyphs with their classes: where one stands, and what is left of those listed as a span of glyphs is walked.
-use Rattle.std.proofs.Common.{◌≡◌, ℕ, zero, suc, ◌+◌, ◌-◌, ◌*◌, ◌<◌, ◌≤◌, Bool, true, false, cond, eqb, leb, List, [], ◌∷◌, ◌++◌, map, length, get_or, drop, Some, None, Option, sym, refl, ap, ◌∙◌, subst, arith}
+use Rattle.std.proofs.Common.{◌≡◌, ℕ, ◌+◌, ◌-◌, ◌<◌, ◌≤◌, Bool, true, false, eqb, leb, List, [], ◌∷◌, map, length, get_or, drop, Some, None, Option, sym, refl, ap, ◌∙◌, subst, arith}
 use Rattle.std.proofs.lemmas.Bool.Decides.{nat_tests}
-use Rattle.std.proofs.lemmas.List.{at_drop_more, at_drop_all, drop-map, drop-drop, length-map, length-drop}
-use Rattle.spec.specs.Fields.{big_endian}
-use Rattle.spec.specs.Lists.{numbers}
+use Rattle.std.proofs.lemmas.List.{at_drop_more, at_drop_all}
 use Rattle.spec.specs.Entries.{not_rising, unsorted}
 use Rattle.spec.specs.Classes.{class_at, first_listed, last_from, span}
 use Rattle.laws.specs.Conditions.{Above, Rising}

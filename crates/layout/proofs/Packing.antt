@@ -1,16 +1,12 @@
 -- How device values are packed: one value more in a word, and the widest format.
-use Rattle.std.proofs.Common.{◌≡◌, ℕ, zero, suc, ◌+◌, ◌-◌, ◌*◌, ◌/◌, ◌%◌, ◌^◌, ◌<◌, ◌≤◌, min, max, true, false, cond, ◌&&◌, eqb, ltb, leb, ◌⊎◌, List, [], ◌∷◌, ◌++◌, length, get_or, take, drop, ℤ, pos, negsuc, sym, refl, ap, ◌∙◌, subst, inl, inr, ⊎_elim, mod-eq_of_lt, mul_assoc, add-mul, one-mul, mul-one, mul-add, arith, w8, SFits}
-use native.Mathlib.Nat.{mul-add-div_right, mul-add-mod_self_right}
-use lib.Arith.{digits_lt, digits_div}
-use lib.Signed.{mag}
+use Rattle.std.proofs.Common.{◌≡◌, ℕ, ◌+◌, ◌-◌, ◌*◌, ◌%◌, ◌^◌, ◌<◌, ◌≤◌, max, List, [], ◌∷◌, length, get_or, drop, ℤ, pos, negsuc, sym, ap, ◌∙◌, subst, add-mul, one-mul, mul-add, arith, w8, SFits}
 use Rattle.std.proofs.lemmas.Bool.Decides.{nat_tests}
-use Rattle.std.proofs.lemmas.Nat.{pow_pos, pow-add, mod_below, shl_whole, mul-le, div-add-mod'}
-use Rattle.std.proofs.lemmas.List.{at_drop_more, at_drop_all, drop_more, take_all, length-drop, length-take, get_or-take, get_or-drop}
-use Rattle.spec.specs.Fields.{bits_of, signed}
+use Rattle.std.proofs.lemmas.Nat.{pow_pos, pow-add, mod_below, shl_whole, mul-le}
+use Rattle.std.proofs.lemmas.List.{at_drop_more, drop_more}
+use Rattle.spec.specs.Fields.{bits_of}
 use Rattle.spec.specs.Devices.{needed_format, delta_format, pack}
 use Rattle.spec.specs.Lists.{Every}
 use Rattle.laws.specs.Conditions.{Within}
-use Rattle.layout.specs.Widths.{Wide}
 
 pub asks_bounds : (v : ℤ) → (1 ≤ needed_format v) × (needed_format v ≤ 3)
 asks_bounds (pos n) = grind (arith, nat_tests)

@@ -1,8 +1,7 @@
 -- Writes one after the other: what stands so far, and what is to come.
-use Rattle.std.proofs.Common.{◌≡◌, ℕ, suc, ◌+◌, ◌-◌, ◌*◌, ◌/◌, ◌%◌, ◌<◌, ◌≤◌, min, List, [], ◌∷◌, ◌++◌, length, get_or, take, drop, set, Ok, Err, Result, sym, refl, ap, ◌∙◌, subst, append-nil, arith}
-use Rattle.std.proofs.lemmas.List.{append_assoc, length-append, length-drop, length-take, drop-drop, take-append-drop, take_at, drop_at, length-take-le, take_all, set-append_right}
+use Rattle.std.proofs.Common.{◌≡◌, ℕ, ◌+◌, ◌-◌, ◌<◌, ◌≤◌, List, [], ◌∷◌, ◌++◌, length, take, drop, set, Ok, Err, Result, sym, refl, ap, ◌∙◌, subst, append-nil, arith}
+use Rattle.std.proofs.lemmas.List.{append_assoc, length-append, length-drop, length-take, drop-drop, take-append-drop, take_at, drop_at, length-take-le, set-append_right}
 use Rattle.layout.specs.declared.output.Output.{Output}
-use Rattle.spec.specs.Denials.{Word, Part}
 use Rattle.denials.specs.declared.denial.Denial.{Denial}
 use Rattle.denials.specs.Denials.{word_of, part_of}
 use Rattle.layout.specs.Writing.{placed, After, Wrote}

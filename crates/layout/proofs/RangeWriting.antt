@@ -1,5 +1,5 @@
 -- Ranges written as they are gathered. The fields of ranges, `flat`, have a third field of each, `third`, by the index of its start.
-use Rattle.std.proofs.Common.{◌≡◌, ℕ, suc, ◌+◌, ◌-◌, ◌*◌, ◌<◌, ◌≤◌, Bool, true, false, ◌&&◌, eqb, List, [], ◌∷◌, ◌++◌, map, length, get_or, drop, Some, None, Ok, Option, sym, refl, ap, ◌∙◌, subst, arith}
+use Rattle.std.proofs.Common.{◌≡◌, ℕ, ◌+◌, ◌-◌, ◌<◌, ◌≤◌, Bool, true, false, ◌&&◌, eqb, List, [], ◌∷◌, ◌++◌, map, length, get_or, Some, None, Ok, Option, sym, refl, ap, ◌∙◌, subst, arith}
 use Rattle.std.proofs.lemmas.Bool.Decides.{nat_tests}
 use Rattle.spec.specs.Fields.{big_endian}
 use Rattle.spec.specs.Coverage.{Range, ranges, range_fields}
@@ -9,7 +9,7 @@ use Rattle.layout.specs.declared.gather.RangeRecord.{RangeRecord}
 use Rattle.layout.specs.declared.gather.Gatherer.{Gatherer}
 use Rattle.layout.specs.declared.gather.Gatherer.TheVariants.{Empty, Open}
 use Rattle.layout.specs.Writing.{Wrote}
-use Rattle.layout.specs.Gathering.{step_if, step, emitted, closing, gathered, ranged}
+use Rattle.layout.specs.Gathering.{step_if, step, emitted, closing, ranged}
 use Rattle.layout.proofs.Places.{Midway, again, more, same}
 use Rattle.layout.proofs.Gathering.{gather_all, ahead, ahead_next, ahead_done}
 

@@ -1,5 +1,5 @@
 -- A part that was written is read back.
-use Rattle.std.proofs.Common.{◌≡◌, ℕ, List, ◌++◌, drop, Some, None, Ok, Err, Option, Result, sym, refl, ap, ◌∙◌, arith}
+use Rattle.std.proofs.Common.{◌≡◌, ℕ, List, drop, Some, None, Ok, Err, Option, Result, refl, arith}
 use Rattle.spec.specs.Fields.{big_endian, Stand}
 use Rattle.spec.specs.Denials as fault_of
 use Rattle.denials.specs.declared.denial.Denial.{Denial}

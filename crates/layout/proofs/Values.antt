@@ -1,12 +1,12 @@
 -- Value formats: their bits one after the other, and how many there are.
-use Rattle.std.proofs.Common.{◌≡◌, ℕ, zero, suc, ◌+◌, ◌-◌, ◌*◌, ◌/◌, ◌%◌, ◌^◌, ◌<◌, ◌≤◌, Bool, true, false, eqb, List, [], ◌∷◌, ◌++◌, length, get_or, drop, sym, refl, ap, ◌∙◌, subst, mul_comm, pow-suc, div-one, add-one, arith}
+use Rattle.std.proofs.Common.{◌≡◌, ℕ, zero, suc, ◌+◌, ◌/◌, ◌%◌, ◌^◌, ◌<◌, ◌≤◌, Bool, true, false, eqb, List, [], ◌∷◌, ◌++◌, length, get_or, drop, sym, refl, ap, ◌∙◌, pow-suc, div-one, add-one, arith}
 use native.Mathlib.Nat.{div-div-eq-div-mul}
 use lib.Count.{ones as digits, ones_step}
 use Rattle.std.proofs.lemmas.Bool.Decides.{nat_tests}
 use Rattle.std.proofs.lemmas.Nat.{ones-le}
 use Rattle.std.proofs.lemmas.List.{at_drop_more, at_drop_all}
 use Rattle.spec.specs.Fields.{big_endian}
-use Rattle.spec.specs.Values.{ones, encoded_size}
+use Rattle.spec.specs.Values.{ones}
 use Rattle.layout.specs.Present.{present_if, present}
 
 -- the ones of a number, counted from the lowest bit up

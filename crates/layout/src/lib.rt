@@ -1,4 +1,5 @@
 // The byte formats that all positioning tables share.
+#![tactic(auto)]
 
 pub mod beside;
 pub mod class_def;

@@ -1,5 +1,5 @@
 -- An interner's entries, seen as the definitions have them.
-use Rattle.std.proofs.Common.{◌≡◌, ℕ, suc, ◌+◌, Bool, true, false, ◌&&◌, ◌||◌, eqb, ltb, leb, List, [], ◌∷◌, ◌++◌, map, length, ℤ, Some, None, Option, Result, sym, refl, ap, ◌∙◌}
+use Rattle.std.proofs.Common.{◌≡◌, ℕ, suc, ◌+◌, Bool, true, false, ◌&&◌, ◌||◌, eqb, ltb, List, [], ◌∷◌, ◌++◌, map, length, ℤ, Some, None, Option, Result, sym, refl, ap, ◌∙◌}
 use lib.ListN.{length-map}
 use Rattle.std.proofs.lemmas.List.{map_push}
 use Rattle.spec.specs.Denials.{Word, Part, Denial, Answer, arises, when, at_place, prevailing}
@@ -10,7 +10,7 @@ use Rattle.spec.specs.Rules.{interned, number_in, overfull}
 use Rattle.storage.specs.declared.delta.Delta as code_delta
 use Rattle.denials.specs.declared.denial.Denial as code_denial
 use Rattle.storage.specs.declared.interner.Interner.{Interner}
-use Rattle.denials.specs.Answers.{entry_answer, denied_or, left_by}
+use Rattle.denials.specs.Answers.{denied_or, left_by}
 use Rattle.storage.specs.Deltas.{delta_of, same_delta}
 use Rattle.denials.specs.Denials.{part_of}
 use Rattle.storage.specs.Entries.{Checked, entry_denial, set_in, device_in, deltas_in, SetEntered, DeviceEntered, DeltasEntered}

@@ -1,5 +1,5 @@
 -- What entering answers and leaves: for an entry that is there, with no place for it, and for a new one.
-use Rattle.std.proofs.Common.{◌≡◌, ℕ, ◌+◌, ◌<◌, ◌≤◌, min, Bool, true, false, not, ◌&&◌, ltb, leb, List, [], ◌∷◌, ◌++◌, length, sym, refl, ap, ◌∙◌, arith, ltb-true, leb-true}
+use Rattle.std.proofs.Common.{◌≡◌, ℕ, ◌+◌, ◌<◌, ◌≤◌, min, Bool, true, false, not, ◌&&◌, ltb, leb, List, [], ◌∷◌, ◌++◌, length, sym, ap, ◌∙◌, arith, ltb-true, leb-true}
 use Rattle.spec.specs.Denials.{Denial, Answer, when}
 use Rattle.spec.specs.Lists.{sum_of}
 use Rattle.spec.specs.Rules.{interned, number_in, overfull}

@@ -1,5 +1,5 @@
 -- What an interner holds, and what entering a list answers and leaves.
-use Rattle.std.specs.Prelude.{◌≡◌, ℕ, zero, suc, ◌+◌, ◌≤◌, min, Bool, true, false, ◌&&◌, List, [], ◌∷◌, map, length, take, drop, Some, None, Option, Result, ◌==◌}
+use Rattle.std.specs.Prelude.{◌≡◌, ℕ, ◌+◌, ◌≤◌, min, Bool, true, false, ◌&&◌, List, [], ◌∷◌, map, length, take, drop, Option, Result, ◌==◌}
 use Rattle.spec.specs.Denials.{Word, Denial, Answer, arises, when}
 use Rattle.spec.specs.Rules.{interned, number_in, overfull}
 use Rattle.denials.specs.declared.denial.Denial as code_denial

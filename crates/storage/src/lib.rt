@@ -1,4 +1,5 @@
 // The state of an open lookup, over memory that the caller brings.
+#![tactic(auto)]
 
 pub mod delta;
 pub mod entries;

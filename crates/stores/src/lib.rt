@@ -1,4 +1,5 @@
 // Variation stores: what a store means, two stores over memory that the caller brings, and a layer over any store.
+#![tactic(auto)]
 
 pub mod flat;
 pub mod laws;

@@ -1,4 +1,4 @@
-use Rattle.std.proofs.Common.{◌≡◌, ◌+◌, ◌-◌, get_or, sym, refl, ap, subst, arith, rules}
+use Rattle.std.proofs.Common.{◌≡◌, ◌+◌, ◌-◌, get_or, sym, refl, subst, arith}
 use Rattle.std.proofs.lemmas.Result.{err_from_is_err_and}
 use Rattle.layout.proofs.Places.{begin, again, fails, ends, last}
 use Rattle.layout.proofs.RangeWriting.{index_of, come_all, come_next, come_empty, come_open, writes_next, writes_same, Held, held_same, held_next}

@@ -1,4 +1,3 @@
-use Rattle.std.proofs.Common.{◌≤◌, length}
 use Rattle.spec.specs.Fields.{big_endian}
 use Rattle.spec.specs.Coverage.{glyph_ranges, range_fields}
 use Rattle.layout.proofs.Places.{Midway}

@@ -1,4 +1,3 @@
-use Rattle.std.proofs.Common.{arith}
 use Rattle.std.proofs.lemmas.Result.{err_from_is_err_and}
 use Rattle.layout.proofs.Searching.{glyph_fault, glyph_found, glyph_next}
 use Rattle.layout.proofs.finding.find_glyph.Goals as goal

@@ -1,4 +1,4 @@
-use Rattle.std.proofs.Common.{◌≡◌, sym, ◌∙◌, arith}
+use Rattle.std.proofs.Common.{sym, ◌∙◌, arith}
 use Rattle.layout.proofs.Listing.{unsorted_all, unsorted_here, unsorted_next, unsorted_none}
 use Rattle.layout.proofs.glyph_class.first_unsorted.Goals as goal
 

@@ -1,4 +1,4 @@
-use Rattle.std.proofs.Common.{◌≡◌, refl, arith}
+use Rattle.std.proofs.Common.{refl, arith}
 use Rattle.std.proofs.lemmas.Result.{err_from_is_err_and}
 use Rattle.layout.proofs.Places.{begin, again, fails, ends, last}
 use Rattle.layout.proofs.RangeWriting.{class_of, come_all, come_next, come_empty, come_open, writes_next, writes_same}

@@ -1,4 +1,4 @@
-use Rattle.std.proofs.Common.{◌≡◌, ltb, sym, ◌∙◌}
+use Rattle.std.proofs.Common.{ltb, sym, ◌∙◌}
 use lib.ListN.{length-map}
 use Rattle.spec.specs.Entries.{lower}
 use Rattle.storage.specs.Deltas.{delta_of}

@@ -1,4 +1,4 @@
-use Rattle.std.proofs.Common.{◌≡◌, ◌-◌, ◌<◌, ◌≤◌, map, length, get_or, pos, arith}
+use Rattle.std.proofs.Common.{◌-◌, ◌<◌, ◌≤◌, map, length, get_or, pos, arith}
 use Rattle.spec.specs.Entries.{regions}
 use Rattle.storage.specs.Deltas.{delta_of}
 use Rattle.storage.proofs.Rising.{rising_go, rising_stop, rising_end, regions_none, region_at, regions_long}

@@ -1,4 +1,4 @@
-use Rattle.std.proofs.Common.{◌≡◌, ◌<◌, ◌≤◌, length, sym, ◌∙◌, arith}
+use Rattle.std.proofs.Common.{◌<◌, ◌≤◌, length, sym, ◌∙◌, arith}
 use Rattle.storage.proofs.SameLists.{same_short, same_go, same_stop, same_all}
 use Rattle.storage.proofs.lists.same_list.Goals as goal
 

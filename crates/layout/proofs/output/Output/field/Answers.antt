@@ -1,4 +1,4 @@
-use Rattle.std.proofs.Common.{◌≡◌, ◌+◌, ◌/◌, ◌%◌, ◌≤◌, [], ◌∷◌, length, refl, ap, ◌∙◌, arith, rules}
+use Rattle.std.proofs.Common.{◌+◌, ◌/◌, ◌%◌, ◌≤◌, [], ◌∷◌, length, refl, ap, ◌∙◌, arith, rules}
 use Rattle.layout.proofs.Places.{set_word, length_placed}
 use Rattle.layout.proofs.output.Output.field.Goals as goal
 

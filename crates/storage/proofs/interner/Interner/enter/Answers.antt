@@ -1,4 +1,4 @@
-use Rattle.std.proofs.Common.{◌≡◌, ◌+◌, ◌<◌, ◌≤◌, min, List, [], ◌∷◌, ◌++◌, length, take, set, sym, refl, ap, ◌∙◌, arith, length-set}
+use Rattle.std.proofs.Common.{◌≡◌, ◌+◌, ◌≤◌, min, length, take, set, refl, ap, ◌∙◌, arith, length-set}
 use Rattle.spec.specs.Denials.{Word, Answer, arises}
 use Rattle.denials.specs.Denials.{part_of}
 use Rattle.storage.specs.Interners.{contents, places, room, same_entry, Sound}

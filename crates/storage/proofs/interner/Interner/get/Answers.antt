@@ -1,4 +1,4 @@
-use Rattle.std.proofs.Common.{◌≡◌, ◌-◌, map, take, Some, ap, ◌∙◌}
+use Rattle.std.proofs.Common.{◌-◌, map, take, Some, ap, ◌∙◌}
 use Rattle.spec.specs.Lists.{at}
 use Rattle.storage.specs.Interners.{entry}
 use Rattle.list_laws.proofs.Cuts.{take_from_least, map_past, map_read}

@@ -1,4 +1,4 @@
-use Rattle.std.proofs.Common.{◌≡◌, ◌^◌, ◌≤◌, min, map, length, take, sym, ap, ◌∙◌, arith}
+use Rattle.std.proofs.Common.{◌≡◌, map, ap, ◌∙◌, arith}
 use Rattle.spec.specs.Rules.{number_in}
 use Rattle.storage.specs.Interners.{contents, entry, same_entry}
 use Rattle.list_laws.proofs.Cuts.{take_from_least}
