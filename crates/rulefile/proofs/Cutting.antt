@@ -1,5 +1,5 @@
 -- Cutting a line into words.
-use Rattle.std.proofs.Common.{◌≡◌, ℕ, ◌+◌, ◌-◌, ◌<◌, ◌≤◌, min, Bool, true, false, ◌&&◌, eqb, ltb, List, [], ◌∷◌, ◌++◌, map, length, get_or, take, drop, sym, refl, ap, ◌∙◌, subst, ⊎_elim, append_assoc, append-nil, arith, rules, eq-eqb}
+use Rattle.std.proofs.Common.{◌≡◌, ℕ, ◌+◌, ◌-◌, ◌<◌, ◌≤◌, min, Bool, true, false, ◌&&◌, eqb, ltb, List, [], ◌∷◌, ◌++◌, length, get_or, take, drop, sym, refl, ap, ◌∙◌, ⊎_elim, append_assoc, append-nil, arith, rules, eq-eqb}
 use mathlib.Core.List.{map-append}
 use Rattle.std.proofs.lemmas.List.{same_lists, places, at_drop_more, at_drop_all, length-take, length-drop, take_all, take_rest, take_more, get_or-drop}
 use Rattle.std.proofs.lemmas.Bool.{cases_lt}

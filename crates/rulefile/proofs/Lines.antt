@@ -1,10 +1,9 @@
 -- Cutting a text into lines, and reading them one after another.
-use Rattle.std.proofs.Common.{◌≡◌, ℕ, ◌+◌, ◌-◌, ◌<◌, ◌≤◌, true, false, eqb, List, [], ◌∷◌, ◌++◌, map, length, get_or, take, drop, Ok, Err, Result, sym, refl, ap, ◌∙◌, subst, append_assoc, arith, eq-eqb}
+use Rattle.std.proofs.Common.{◌≡◌, ℕ, ◌+◌, ◌-◌, ◌<◌, ◌≤◌, true, false, List, [], ◌∷◌, ◌++◌, length, get_or, take, drop, Ok, Err, Result, sym, ap, ◌∙◌, subst, append_assoc, arith, eq-eqb}
 use mathlib.Core.List.{map-append}
 use Rattle.std.proofs.lemmas.List.{at_drop_more, at_drop_all, length-drop, length-map, take_more, get_or-drop}
 use Rattle.rulefile.specs.declared.fault.Stop.{Stop}
 use Rattle.rulefile.specs.declared.fault.Stop.TheVariants.{Memory, Wrong}
-use Rattle.rulefile.specs.declared.parser.Parser.{Parser}
 use Rattle.rulefile.specs.declared.rules.Error.{Error}
 use Rattle.rulefile.specs.declared.rules.Mistake.{Mistake}
 use Rattle.rulefile.specs.declared.rules.RuleFile.{RuleFile}

@@ -1,5 +1,5 @@
 -- Where a mistake is, and that the statements of a file stand on rising lines.
-use Rattle.std.proofs.Common.{◌≡◌, ℕ, ◌+◌, ◌<◌, ◌≤◌, Bool, true, false, cond, eqb, ◌⊎◌, List, [], ◌∷◌, ◌++◌, length, is_some, IfOk, IfErr, Some, None, Ok, Err, Option, Result, sym, refl, ap, ◌∙◌, subst, inl, inr, ⊎_elim, arith}
+use Rattle.std.proofs.Common.{◌≡◌, ℕ, ◌+◌, ◌<◌, ◌≤◌, Bool, true, false, cond, eqb, ◌⊎◌, List, [], ◌∷◌, ◌++◌, length, is_some, IfOk, IfErr, Some, None, Ok, Err, Option, Result, sym, refl, ap, subst, inl, inr, arith}
 use Rattle.rulefile.specs.declared.fault.Fault.{Fault}
 use Rattle.rulefile.specs.declared.fault.Fault.TheVariants as fault
 use Rattle.rulefile.specs.declared.keywords.Keyword.{Keyword}

@@ -1,5 +1,5 @@
 -- What a statement says, and what the words of `set`, `device` and `deltas` stand for.
-use Rattle.std.specs.Prelude.{ℕ, cond, List, [], ◌∷◌, get_or, drop, ℤ, is_some, Ok, Err, vec_items, Result}
+use Rattle.std.specs.Prelude.{ℕ, cond, List, drop, ℤ, is_some, Ok, Err, vec_items, Result}
 use Rattle.rulefile.specs.declared.fault.Fault.{Fault}
 use Rattle.rulefile.specs.declared.fault.Fault.TheVariants as fault
 use Rattle.rulefile.specs.declared.rules.Delta.{Delta}

@@ -1,5 +1,5 @@
 -- What a word stands for as a number: decimal, or hexadecimal after `0x`, with no limit on its digits.
-use Rattle.std.specs.Prelude.{ℕ, ◌+◌, ◌-◌, ◌*◌, Bool, true, false, cond, ◌&&◌, List, [], ◌∷◌, ℤ, pos, neg_ℤ, Some, None, Option, ◌==◌, nat_le, nat_lt}
+use Rattle.std.specs.Prelude.{ℕ, ◌+◌, ◌-◌, ◌*◌, true, false, cond, ◌&&◌, List, [], ◌∷◌, ℤ, pos, neg_ℤ, Some, None, Option, ◌==◌, nat_le, nat_lt}
 
 -- what a digit counts: 0 to 9, then a to f in either case; any other byte counts more than a base has
 abbrev pub digit_value : ℕ → ℕ

@@ -1,5 +1,5 @@
 -- What a program asks of a file that was read.
-use Rattle.std.specs.Prelude.{ℕ, ◌+◌, Bool, true, false, cond, ◌||◌, List, [], ◌∷◌, Some, None, Option, ◌==◌}
+use Rattle.std.specs.Prelude.{ℕ, ◌+◌, Bool, false, cond, ◌||◌, List, [], ◌∷◌, Some, None, Option, ◌==◌}
 use Rattle.rulefile.specs.declared.rules.Metric.{Metric}
 use Rattle.rulefile.specs.declared.rules.Record.{Record}
 use Rattle.rulefile.specs.declared.rules.Records.{Records}

@@ -1,4 +1,6 @@
 // Reads rule files: the text of a lookup's rules, one statement a line.
+#![tactic(auto)]
+
 mod entries;
 mod fault;
 mod file;

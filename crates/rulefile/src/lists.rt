@@ -69,7 +69,7 @@ impl Item for Delta {
 
 // The items of the words from `from` on.
 pub(crate) fn read_each<T: Item>(heap: Global, words: &Words, from: usize) -> Result<Vec<T>, Stop>
-    ensures { Answered vec_items result (each reads (drop from (words_in words.now))) }
+    ensures { Answered vec_items result (each T.reads (drop from (words_in words.now))) }
 {
     let mut items = Vec::new(heap);
     for at in from..words.count() {

@@ -3,7 +3,7 @@ use Rattle.rulefile.proofs.file.parse.Goals as goal
 
 pub returns : goal.returns
 returns c = record {
-  value = c.read-text.ensures;
-  place = within_lines c.args.text.now c.read-text.result c.read-text.ensures;
-  rising = rising_lines c.args.text.now c.read-text.result c.read-text.ensures;
+  value = c.read_text.ensures;
+  place = within_lines c.args.text.now c.read_text.result c.read_text.ensures;
+  rising = rising_lines c.args.text.now c.read_text.result c.read_text.ensures;
 }

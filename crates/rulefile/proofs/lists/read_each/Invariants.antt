@@ -6,5 +6,5 @@ use Rattle.rulefile.proofs.lists.read_each.Given as goal
 
 abbrev pub invariant-loop-at : goal.invariant-loop-at
 invariant-loop-at g l =
-    onto (vec_items l.items) (each g.T-as-Item.reads (drop l.at (words_in l.words)))
-    ≡ each g.T-as-Item.reads (drop l.from (words_in l.words))
+    onto (vec_items l.items) (each g.T.Item.reads (drop l.at (words_in l.words)))
+    ≡ each g.T.Item.reads (drop l.from (words_in l.words))

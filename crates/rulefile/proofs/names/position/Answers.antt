@@ -1,4 +1,4 @@
-use Rattle.std.proofs.Common.{eqb, sym, ◌∙◌, arith, eq-eqb}
+use Rattle.std.proofs.Common.{eqb, arith, eq-eqb}
 use Rattle.rulefile.proofs.Finding.{first_here, first_later, first_end, differs}
 use Rattle.rulefile.proofs.names.position.Goals as goal
 

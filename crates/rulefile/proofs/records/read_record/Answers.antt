@@ -7,12 +7,12 @@ use Rattle.rulefile.proofs.records.read_record.Goals as goal
 pub returns-then-from-end : goal.returns-then-from-end
 returns-then-from-end c = record_none (map named c.args.entries.now) (words_in c.args.words.now) c.args.from c.args.to (omega arith)
 
-pub returns-then-is-dash : goal.returns-then-is-dash
-returns-then-is-dash c =
-    ap Ok c.empty-record.ensures
-    ∙ record_dash (map named c.args.entries.now) (words_in c.args.words.now) c.args.from c.args.to c.min-end.result (omega arith) (omega arith) c.if-is-dash.ensures
+pub returns-then-is_dash : goal.returns-then-is_dash
+returns-then-is_dash c =
+    ap Ok c.empty_record.ensures
+    ∙ record_dash (map named c.args.entries.now) (words_in c.args.words.now) c.args.from c.args.to c.min-end.result (omega arith) (omega arith) c.if-is_dash.ensures
 
 pub returns : goal.returns
 returns c =
-    c.read-metrics.ensures
-    ∙ record_metrics (map named c.args.entries.now) (words_in c.args.words.now) c.args.from c.args.to c.min-end.result (omega arith) (omega arith) c.if-is-dash.ensures
+    c.read_metrics.ensures
+    ∙ record_metrics (map named c.args.entries.now) (words_in c.args.words.now) c.args.from c.args.to c.min-end.result (omega arith) (omega arith) c.if-is_dash.ensures

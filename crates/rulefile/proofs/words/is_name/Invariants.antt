@@ -1,5 +1,5 @@
-use Rattle.std.proofs.Common.{◌≡◌, true, get_or, drop}
-use Rattle.rulefile.specs.Words.{is_name, letter, name_bytes}
+use Rattle.std.proofs.Common.{◌≡◌, drop}
+use Rattle.rulefile.specs.Words.{is_name, name_bytes}
 use Rattle.rulefile.proofs.words.is_name.Given as goal
 
 abbrev pub invariant-loop-at : goal.invariant-loop-at

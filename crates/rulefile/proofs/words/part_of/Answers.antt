@@ -1,4 +1,3 @@
-use Rattle.std.proofs.Common.{◌≡◌, min, length, sym, refl, ap, ◌∙◌}
 use Rattle.rulefile.proofs.Cutting.{clipped}
 use Rattle.rulefile.proofs.words.part_of.Goals as goal
 

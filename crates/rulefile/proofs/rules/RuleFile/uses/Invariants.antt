@@ -1,6 +1,6 @@
 use Rattle.std.proofs.Common.{◌≡◌, ◌+◌, ◌≤◌, drop}
 use Rattle.rulefile.specs.Files.{file_of}
-use Rattle.rulefile.specs.Queries.{how_many, of_kind, using_entry}
+use Rattle.rulefile.specs.Queries.{how_many, using_entry}
 use Rattle.rulefile.proofs.rules.RuleFile.uses.Given as goal
 
 abbrev pub invariant-loop-at : goal.invariant-loop-at

@@ -5,7 +5,7 @@ use Rattle.rulefile.proofs.words.Words.word.Goals as goal
 
 pub returns-then-at-len : goal.returns-then-at-len
 returns-then-at-len c =
-    c.part-of.ensures ∙ ap (λ l. part_of l c.index-part.result.now) c.as-slice.ensures.value
+    c.part_of.ensures ∙ ap (λ l. part_of l c.index-part.result.now) c.as_slice.ensures.value
     ∙ ap (part_of (vec_items c.args.self.now.line)) c.index-part.ensures
     ∙ sym (get_or-map (part_of (vec_items c.args.self.now.line)) (vec_items c.args.self.now.parts) c.args.at c.index-part.result.now []
     (omega (arith, c.args.self.now.parts.ok.0)))
