@@ -1,4 +1,6 @@
 // Reads rule files from standard input, one a line with `;` for its line ends, and prints what each says last.
+#![tactic(auto)]
+
 mod show;
 
 use anyhow::anyhow;
