@@ -6,12 +6,12 @@ use Rattle.spec.specs.Fields.{field, Stand}
 use Rattle.spec.specs.Coverage.{Range, joined, glyph_ranges, range_fields, shorter_as_ranges, coverage_count, coverage_entries, coverage_index}
 use Rattle.spec.specs.Classes.{class_range_fields}
 use Rattle.spec.specs.Bytes.{end, fields, head, coverage, own, Lies}
-use Rattle.spec.specs.Meaning.{find_glyph, index_in, covered}
+use Rattle.spec.specs.Meaning.{glyph_search, index_in, covered}
 use Rattle.laws.proofs.Standing.{spread}
 use Rattle.laws.proofs.Lying.{fields_head}
 use Rattle.laws.proofs.Ranges.{holding, ranges_read, Sound, ranges_sound}
 
-glyphs_read : (bs : List ℕ) (g k i : ℕ) (gs : List ℕ) → Stand bs k gs → find_glyph bs g k i (length gs) ≡ Ok (place_of (λ x. eqb x g) i gs)
+glyphs_read : (bs : List ℕ) (g k i : ℕ) (gs : List ℕ) → Stand bs k gs → glyph_search bs g k i (length gs) ≡ Ok (place_of (λ x. eqb x g) i gs)
 glyphs_read bs g k i [] h = refl
 glyphs_read bs g k i (x ∷ gs) h = let a = glyphs_read bs g (k + 2) (i + 1) gs h.1 in rw h.0 (grind (arith, nat_tests))
 

@@ -6,7 +6,7 @@ use Rattle.spec.specs.Lists.{has, first, map_some}
 use Rattle.spec.specs.Fields.{field, and_then}
 use Rattle.spec.specs.Build.{BuiltPair, first_glyphs, pair_set}
 use Rattle.spec.specs.Bytes.{Table, end, head, own, size, Lies, coverage, children, pair_set_table, glyph_pair_table}
-use Rattle.spec.specs.Meaning.{covered, if_covered, find_pair, glyph_pair, pair}
+use Rattle.spec.specs.Meaning.{covered, if_covered, pair_search, glyph_pair, pair}
 use Rattle.list_laws.proofs.Within.{every_keep}
 use Rattle.list_laws.proofs.Rising.{any_sorted}
 use Rattle.laws.specs.Conditions.{OfFormat, PairsOf}
@@ -26,7 +26,7 @@ no_pair g h es n =
 module _ (bs : List ℕ) (s at f1 f2 : ℕ) (q : ℕ × ℕ) (es : List BuiltPair) (fits : PairsOf f1 f2 es) where
   -- the pair set of the first glyph, found through the offset at k
   set_read : (k : ℕ) → Leads bs at k (pair_set_table f1 f2 (pair_set es q.0))
-      → and_then (field bs k) (λ o. and_then (field bs (at + o)) (λ m. find_pair bs s q.1 f1 f2 (at + o) (at + o + 2) m)) ≡ Ok (pair_read s q es)
+      → and_then (field bs k) (λ o. and_then (field bs (at + o)) (λ m. pair_search bs s q.1 f1 f2 (at + o) (at + o + 2) m)) ≡ Ok (pair_read s q es)
   set_read k c =
       let ps = pair_set es q.0 in
       let r = pair_set_reads bs s q.1 (at + c.offset) f1 f2 ps (every_keep (λ e. eqb e.first q.0) (λ e. OfFormat f1 e.values1 × OfFormat f2 e.values2) es fits) c.lies in

@@ -5,7 +5,7 @@ use Rattle.spec.specs.Lists.{Every}
 use Rattle.spec.specs.Fields.{field, and_then, Stand}
 use Rattle.spec.specs.Coverage.{Range, joined, ranges}
 use Rattle.spec.specs.Classes.{class_range_fields}
-use Rattle.spec.specs.Meaning.{find_range}
+use Rattle.spec.specs.Meaning.{range_search}
 use Rattle.laws.proofs.Standing.{spread}
 
 -- start and class of the first range that holds a glyph
@@ -30,12 +30,12 @@ module _ (bs : List ℕ) (g k s : ℕ) (rest : Result (Option (ℕ × ℕ)) ℕ)
     start_tested true = rw last (end_tested (leb g e))
     start_tested false = others
 
-pub ranges_read : (bs : List ℕ) (g k : ℕ) (rs : List Range) → Stand bs k (class_range_fields rs) → find_range bs g k (length rs) ≡ Ok (holding g rs)
+pub ranges_read : (bs : List ℕ) (g k : ℕ) (rs : List Range) → Stand bs k (class_range_fields rs) → range_search bs g k (length rs) ≡ Ok (holding g rs)
 ranges_read bs g k [] h = refl
 ranges_read bs g k (r ∷ rs) h =
     let p = spread bs k 1 (r.end ∷ r.class ∷ []) (class_range_fields rs) h.1 in
     let others = ranges_read bs g (k + 6) rs p.1.1 in
-    rw h.0 (start_tested bs g k r.start (find_range bs g (k + 6) (length rs)) r.end r.class (holding g rs) p.0 p.1.0 others (leb r.start g))
+    rw h.0 (start_tested bs g k r.start (range_search bs g (k + 6) (length rs)) r.end r.class (holding g rs) p.0 p.1.0 others (leb r.start g))
 
 -- every range begins at or before its end
 abbrev pub Sound : List Range → Type 0

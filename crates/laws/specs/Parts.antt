@@ -9,7 +9,7 @@ use Rattle.spec.specs.Build.{BuiltPair}
 use Rattle.spec.specs.Bytes
 use Rattle.spec.specs.Meaning
 use Rattle.spec.specs.Bytes.{Table, head, Below, Lies, coverage, class_def, beside_table, pair_set_table}
-use Rattle.spec.specs.Meaning.{no_id, covered, class, beside, find_pair}
+use Rattle.spec.specs.Meaning.{no_id, covered, class, beside, pair_search}
 use Rattle.laws.specs.Conditions.{Rising, FitsDevice, FitsRecord, HasFields, PairsOf}
 use Rattle.laws.specs.Descriptions.{record_read, second_read}
 
@@ -44,4 +44,4 @@ RecordReads = (bs : List ℕ) (size base at k f : ℕ) (r : ValueRecord DeviceOr
 -- in a pair set the first pair with the second glyph is found, or none
 abbrev pub PairSetReads : Type 0
 PairSetReads = (bs : List ℕ) (size h at f1 f2 : ℕ) (es : List BuiltPair) → PairsOf f1 f2 es → Lies bs at (pair_set_table f1 f2 es)
-    → find_pair bs size h f1 f2 at (at + 2) (length es) ≡ Ok (second_read size h es)
+    → pair_search bs size h f1 f2 at (at + 2) (length es) ≡ Ok (second_read size h es)

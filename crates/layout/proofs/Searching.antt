@@ -2,7 +2,7 @@
 use Rattle.std.proofs.Common.{◌≡◌, ℕ, suc, ◌+◌, ◌-◌, ◌*◌, ◌<◌, ◌≤◌, Bool, true, false, eqb, leb, List, Some, Ok, Err, Option, Result, sym, refl, ap, ◌∙◌, arith}
 use Rattle.std.proofs.lemmas.Bool.Decides.{nat_tests}
 use Rattle.spec.specs.Fields.{field, and_then}
-use Rattle.spec.specs.Meaning.{find_glyph, find_range}
+use Rattle.spec.specs.Meaning.{glyph_search, range_search}
 
 module _ (bs : List ℕ) (g at i n : ℕ) (h : i < n) where
   left : n - i ≡ suc (n - (i + 1))
@@ -10,28 +10,28 @@ module _ (bs : List ℕ) (g at i n : ℕ) (h : i < n) where
 
   -- ---- glyphs: the step at glyph i of n
   glyph_step : (r : Result ℕ ℕ) → r ≡ field bs (at + 2 * i)
-      → find_glyph bs g (at + 2 * i) i (n - i) ≡ and_then r (λ x. elim (eqb x g) [ true ↦ Ok (Some i) | false ↦ find_glyph bs g (at + 2 * i + 2) (i + 1) (n - (i + 1)) ])
-  glyph_step r p = ap (find_glyph bs g (at + 2 * i) i) left ∙ ap (λ z. and_then z (λ x. elim (eqb x g) [ true ↦ Ok (Some i) | false ↦ find_glyph bs g (at + 2 * i + 2) (i + 1) (n - (i + 1)) ])) (sym p)
+      → glyph_search bs g (at + 2 * i) i (n - i) ≡ and_then r (λ x. elim (eqb x g) [ true ↦ Ok (Some i) | false ↦ glyph_search bs g (at + 2 * i + 2) (i + 1) (n - (i + 1)) ])
+  glyph_step r p = ap (glyph_search bs g (at + 2 * i) i) left ∙ ap (λ z. and_then z (λ x. elim (eqb x g) [ true ↦ Ok (Some i) | false ↦ glyph_search bs g (at + 2 * i + 2) (i + 1) (n - (i + 1)) ])) (sym p)
 
-  pub glyph_fault : (e : ℕ) → Err e ≡ field bs (at + 2 * i) → find_glyph bs g (at + 2 * i) i (n - i) ≡ Err e
+  pub glyph_fault : (e : ℕ) → Err e ≡ field bs (at + 2 * i) → glyph_search bs g (at + 2 * i) i (n - i) ≡ Err e
   glyph_fault e p = glyph_step (Err e) p
 
-  pub glyph_found : (x : ℕ) → Ok x ≡ field bs (at + 2 * i) → x ≡ g → find_glyph bs g (at + 2 * i) i (n - i) ≡ Ok (Some i)
+  pub glyph_found : (x : ℕ) → Ok x ≡ field bs (at + 2 * i) → x ≡ g → glyph_search bs g (at + 2 * i) i (n - i) ≡ Ok (Some i)
   glyph_found x p q = glyph_step (Ok x) p ∙ grind (arith, nat_tests)
 
-  pub glyph_next : (x : ℕ) → Ok x ≡ field bs (at + 2 * i) → (x ≡ g → ⊥) → find_glyph bs g (at + 2 * i) i (n - i) ≡ find_glyph bs g (at + 2 * (i + 1)) (i + 1) (n - (i + 1))
+  pub glyph_next : (x : ℕ) → Ok x ≡ field bs (at + 2 * i) → (x ≡ g → ⊥) → glyph_search bs g (at + 2 * i) i (n - i) ≡ glyph_search bs g (at + 2 * (i + 1)) (i + 1) (n - (i + 1))
   glyph_next x p q =
       let e : at + 2 * i + 2 ≡ at + 2 * (i + 1) = omega arith in
-      glyph_step (Ok x) p ∙ (go (eqb x g) refl ∙ ap (λ k. find_glyph bs g k (i + 1) (n - (i + 1))) e)
+      glyph_step (Ok x) p ∙ (go (eqb x g) refl ∙ ap (λ k. glyph_search bs g k (i + 1) (n - (i + 1))) e)
     where
-      go : (b : Bool) → eqb x g ≡ b → ◌≡◌ {A = Result (Option ℕ) ℕ} (elim b [ true ↦ Ok (Some i) | false ↦ find_glyph bs g (at + 2 * i + 2) (i + 1) (n - (i + 1)) ]) (find_glyph bs g (at + 2 * i + 2) (i + 1) (n - (i + 1)))
+      go : (b : Bool) → eqb x g ≡ b → ◌≡◌ {A = Result (Option ℕ) ℕ} (elim b [ true ↦ Ok (Some i) | false ↦ glyph_search bs g (at + 2 * i + 2) (i + 1) (n - (i + 1)) ]) (glyph_search bs g (at + 2 * i + 2) (i + 1) (n - (i + 1)))
       go true f = absurd (q (grind (arith, nat_tests)))
       go false f = refl
 
   -- ---- ranges: the step at range i of n
 
   abbrev rest : Result (Option (ℕ × ℕ)) ℕ
-  rest = find_range bs g (at + 6 * i + 6) (n - (i + 1))
+  rest = range_search bs g (at + 6 * i + 6) (n - (i + 1))
 
   abbrev third : ℕ → Result (Option (ℕ × ℕ)) ℕ
   third s = and_then (field bs (at + 6 * i + 4)) (λ x. Ok (Some (s, x)))
@@ -42,10 +42,10 @@ module _ (bs : List ℕ) (g at i n : ℕ) (h : i < n) where
   abbrev by_start : ℕ → Result (Option (ℕ × ℕ)) ℕ
   by_start s = elim (leb s g) [ true ↦ and_then (field bs (at + 6 * i + 2)) (by_end s) | false ↦ rest ]
 
-  range_step : (r : Result ℕ ℕ) → r ≡ field bs (at + 6 * i) → find_range bs g (at + 6 * i) (n - i) ≡ and_then r by_start
-  range_step r p = ap (find_range bs g (at + 6 * i)) left ∙ ap (λ z. and_then z by_start) (sym p)
+  range_step : (r : Result ℕ ℕ) → r ≡ field bs (at + 6 * i) → range_search bs g (at + 6 * i) (n - i) ≡ and_then r by_start
+  range_step r p = ap (range_search bs g (at + 6 * i)) left ∙ ap (λ z. and_then z by_start) (sym p)
 
-  pub start_fault : (e : ℕ) → Err e ≡ field bs (at + 6 * i) → find_range bs g (at + 6 * i) (n - i) ≡ Err e
+  pub start_fault : (e : ℕ) → Err e ≡ field bs (at + 6 * i) → range_search bs g (at + 6 * i) (n - i) ≡ Err e
   start_fault e p = range_step (Err e) p
 
   -- the start is not above the glyph
@@ -56,7 +56,7 @@ module _ (bs : List ℕ) (g at i n : ℕ) (h : i < n) where
       go true e = ap (λ z. and_then z (by_end s)) (sym p)
       go false e = cc
 
-  pub end_fault : (s e : ℕ) → Ok s ≡ field bs (at + 6 * i) → s ≤ g → Err e ≡ field bs (at + 6 * i + 2) → find_range bs g (at + 6 * i) (n - i) ≡ Err e
+  pub end_fault : (s e : ℕ) → Ok s ≡ field bs (at + 6 * i) → s ≤ g → Err e ≡ field bs (at + 6 * i + 2) → range_search bs g (at + 6 * i) (n - i) ≡ Err e
   end_fault s e p l q = range_step (Ok s) p ∙ inside s (Err e) l q
 
   -- nor is its end below it
@@ -67,23 +67,23 @@ module _ (bs : List ℕ) (g at i n : ℕ) (h : i < n) where
       go true f = ap (λ z. and_then z (λ x. Ok (Some (s, x)))) (sym p)
       go false f = cc
 
-  pub third_fault : (s e k : ℕ) → Ok s ≡ field bs (at + 6 * i) → s ≤ g → Ok e ≡ field bs (at + 6 * i + 2) → g ≤ e → Err k ≡ field bs (at + 6 * i + 4) → find_range bs g (at + 6 * i) (n - i) ≡ Err k
+  pub third_fault : (s e k : ℕ) → Ok s ≡ field bs (at + 6 * i) → s ≤ g → Ok e ≡ field bs (at + 6 * i + 2) → g ≤ e → Err k ≡ field bs (at + 6 * i + 4) → range_search bs g (at + 6 * i) (n - i) ≡ Err k
   third_fault s e k p l q m r = range_step (Ok s) p ∙ (inside s (Ok e) l q ∙ holds s e (Err k) m r)
 
-  pub range_found : (s e x : ℕ) → Ok s ≡ field bs (at + 6 * i) → s ≤ g → Ok e ≡ field bs (at + 6 * i + 2) → g ≤ e → Ok x ≡ field bs (at + 6 * i + 4) → find_range bs g (at + 6 * i) (n - i) ≡ Ok (Some (s, x))
+  pub range_found : (s e x : ℕ) → Ok s ≡ field bs (at + 6 * i) → s ≤ g → Ok e ≡ field bs (at + 6 * i + 2) → g ≤ e → Ok x ≡ field bs (at + 6 * i + 4) → range_search bs g (at + 6 * i) (n - i) ≡ Ok (Some (s, x))
   range_found s e x p l q m r = range_step (Ok s) p ∙ (inside s (Ok e) l q ∙ holds s e (Ok x) m r)
 
-  onward : rest ≡ find_range bs g (at + 6 * (i + 1)) (n - (i + 1))
-  onward = let e : at + 6 * i + 6 ≡ at + 6 * (i + 1) = omega arith in ap (λ k. find_range bs g k (n - (i + 1))) e
+  onward : rest ≡ range_search bs g (at + 6 * (i + 1)) (n - (i + 1))
+  onward = let e : at + 6 * i + 6 ≡ at + 6 * (i + 1) = omega arith in ap (λ k. range_search bs g k (n - (i + 1))) e
 
-  pub start_above : (s : ℕ) → Ok s ≡ field bs (at + 6 * i) → g < s → find_range bs g (at + 6 * i) (n - i) ≡ find_range bs g (at + 6 * (i + 1)) (n - (i + 1))
+  pub start_above : (s : ℕ) → Ok s ≡ field bs (at + 6 * i) → g < s → range_search bs g (at + 6 * i) (n - i) ≡ range_search bs g (at + 6 * (i + 1)) (n - (i + 1))
   start_above s p l = range_step (Ok s) p ∙ (go (leb s g) (grind (arith, nat_tests)) ∙ onward)
     where
       go : (b : Bool) → b ≡ false → ◌≡◌ {A = Result (Option (ℕ × ℕ)) ℕ} (elim b [ true ↦ and_then (field bs (at + 6 * i + 2)) (by_end s) | false ↦ rest ]) rest
       go true e = cc
       go false e = refl
 
-  pub end_below : (s e : ℕ) → Ok s ≡ field bs (at + 6 * i) → s ≤ g → Ok e ≡ field bs (at + 6 * i + 2) → e < g → find_range bs g (at + 6 * i) (n - i) ≡ find_range bs g (at + 6 * (i + 1)) (n - (i + 1))
+  pub end_below : (s e : ℕ) → Ok s ≡ field bs (at + 6 * i) → s ≤ g → Ok e ≡ field bs (at + 6 * i + 2) → e < g → range_search bs g (at + 6 * i) (n - i) ≡ range_search bs g (at + 6 * (i + 1)) (n - (i + 1))
   end_below s e p l q m = range_step (Ok s) p ∙ (inside s (Ok e) l q ∙ (go (leb g e) (grind (arith, nat_tests)) ∙ onward))
     where
       go : (b : Bool) → b ≡ false → ◌≡◌ {A = Result (Option (ℕ × ℕ)) ℕ} (elim b [ true ↦ third s | false ↦ rest ]) rest

@@ -10,12 +10,12 @@ ghost use Rattle.layout.specs.Faults.{Shaped, class_count, class_fault};
 ghost use Rattle.layout.specs.Listing.{listed};
 ghost use Rattle.layout.specs.Described.{table_fields};
 
-use crate::finding::find_range;
 use crate::glyph_class::{
     GlyphClass, count_ranges, first_and_span, first_unsorted, write_array, write_ranges,
 };
 use crate::output::Output;
 use crate::reading::field_at;
+use crate::searches::find_range;
 use crate::write::{FontRead, FontWrite};
 use denials::denial::{Denial, Part, Word};
 

@@ -9,10 +9,10 @@ ghost use Rattle.layout.specs.Writing.{Wrote, Puts, room};
 ghost use Rattle.layout.specs.Faults.{Shaped, coverage_fault};
 ghost use Rattle.layout.specs.Described.{table_fields};
 
-use crate::finding::{find_glyph, find_range};
 use crate::gather::Gatherer;
 use crate::output::Output;
 use crate::reading::field_at;
+use crate::searches::{find_glyph, find_range};
 use crate::write::{FontRead, FontWrite};
 use denials::denial::{Denial, Part, Word};
 

@@ -26,23 +26,23 @@ if_covered None f = Ok None
 if_covered (Some i) f = f i
 
 module _ (bs : List ℕ) where
-  -- ---- finding takes the first match in written order
+  -- ---- searches take the first match in written order
 
   -- n glyphs are left, the next at `at` and of index i
-  abbrev pub find_glyph : ℕ → ℕ → ℕ → ℕ → Result (Option ℕ) ℕ
-  find_glyph g at i zero = Ok None
-  find_glyph g at i (suc n) = and_then (field bs at) (λ x. elim (x == g) [ true ↦ Ok (Some i) | false ↦ find_glyph g (at + 2) (i + 1) n ])
+  abbrev pub glyph_search : ℕ → ℕ → ℕ → ℕ → Result (Option ℕ) ℕ
+  glyph_search g at i zero = Ok None
+  glyph_search g at i (suc n) = and_then (field bs at) (λ x. elim (x == g) [ true ↦ Ok (Some i) | false ↦ glyph_search g (at + 2) (i + 1) n ])
 
   -- n ranges are left, the next at `at`: the start and the third field of the first that holds the glyph. A range's end is read
   -- only if its start is not above the glyph
-  abbrev pub find_range : ℕ → ℕ → ℕ → Result (Option (ℕ × ℕ)) ℕ
-  find_range g at zero = Ok None
-  find_range g at (suc n) = and_then (field bs at) (λ s. elim (nat_le s g) [
+  abbrev pub range_search : ℕ → ℕ → ℕ → Result (Option (ℕ × ℕ)) ℕ
+  range_search g at zero = Ok None
+  range_search g at (suc n) = and_then (field bs at) (λ s. elim (nat_le s g) [
     | true ↦ and_then (field bs (at + 2)) (λ e. elim (nat_le g e) [
       | true ↦ and_then (field bs (at + 4)) (λ x. Ok (Some (s, x)))
-      | false ↦ find_range g (at + 6) n
+      | false ↦ range_search g (at + 6) n
     ])
-    | false ↦ find_range g (at + 6) n
+    | false ↦ range_search g (at + 6) n
   ])
 
 -- ---- coverage: the index of a glyph, or none
@@ -53,10 +53,10 @@ index_in g None = None
 index_in g (Some r) = Some (r.1 + (g - r.0))
 
 abbrev pub covered_by_glyphs : List ℕ → ℕ → ℕ → Result (Option ℕ) ℕ
-covered_by_glyphs bs at g = and_then (field bs (at + 2)) (λ n. find_glyph bs g (at + 4) 0 n)
+covered_by_glyphs bs at g = and_then (field bs (at + 2)) (λ n. glyph_search bs g (at + 4) 0 n)
 
 abbrev pub covered_by_ranges : List ℕ → ℕ → ℕ → Result (Option ℕ) ℕ
-covered_by_ranges bs at g = and_then (field bs (at + 2)) (λ n. and_then (find_range bs g (at + 4) n) (λ r. Ok (index_in g r)))
+covered_by_ranges bs at g = and_then (field bs (at + 2)) (λ n. and_then (range_search bs g (at + 4) n) (λ r. Ok (index_in g r)))
 
 abbrev pub covered : List ℕ → ℕ → ℕ → Result (Option ℕ) ℕ
 covered bs at g = and_then (field bs at) (λ f. elim (f == 1) [
@@ -82,7 +82,7 @@ class_by_array bs at g = and_then (field bs (at + 2)) (λ s. elim (nat_le s g) [
 ])
 
 abbrev pub class_by_ranges : List ℕ → ℕ → ℕ → Result ℕ ℕ
-class_by_ranges bs at g = and_then (field bs (at + 2)) (λ n. and_then (find_range bs g (at + 4) n) (λ r. Ok (class_in r)))
+class_by_ranges bs at g = and_then (field bs (at + 2)) (λ n. and_then (range_search bs g (at + 4) n) (λ r. Ok (class_in r)))
 
 abbrev pub class : List ℕ → ℕ → ℕ → Result ℕ ℕ
 class bs at g = and_then (field bs at) (λ f. elim (f == 1) [
@@ -166,18 +166,18 @@ single bs size g at = and_then (field bs at) (λ kind. elim (kind == 1 || kind =
 
 module _ (bs : List ℕ) where
   -- n pairs are left in the pair set at `base`, the next at `at`
-  abbrev pub find_pair : ℕ → ℕ → ℕ → ℕ → ℕ → ℕ → ℕ → Reading
-  find_pair size h f1 f2 base at zero = Ok None
-  find_pair size h f1 f2 base at (suc n) = and_then (field bs at) (λ x. elim (x == h) [
+  abbrev pub pair_search : ℕ → ℕ → ℕ → ℕ → ℕ → ℕ → ℕ → Reading
+  pair_search size h f1 f2 base at zero = Ok None
+  pair_search size h f1 f2 base at (suc n) = and_then (field bs at) (λ x. elim (x == h) [
     | true ↦ two_records bs size base (at + 2) f1 f2
-    | false ↦ find_pair size h f1 f2 base (at + 2 + encoded_size f1 + encoded_size f2) n
+    | false ↦ pair_search size h f1 f2 base (at + 2 + encoded_size f1 + encoded_size f2) n
   ])
 
 -- without the second glyph in the pair set it is for the next subtable
 abbrev pub glyph_pair : List ℕ → ℕ → ℕ → ℕ → ℕ → ℕ → ℕ → Reading
 glyph_pair bs size h at i f1 f2 = and_then (field bs (at + 8)) (λ n. elim (nat_lt i n) [
   | false ↦ Err (at + 8)
-  | true ↦ and_then (field bs (at + 10 + 2 * i)) (λ o. and_then (field bs (at + o)) (λ m. find_pair bs size h f1 f2 (at + o) (at + o + 2) m))
+  | true ↦ and_then (field bs (at + 10 + 2 * i)) (λ o. and_then (field bs (at + o)) (λ m. pair_search bs size h f1 f2 (at + o) (at + o + 2) m))
 ])
 
 -- a class definition's class, checked at once against its count, which stands at `from`

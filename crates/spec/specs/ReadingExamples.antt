@@ -79,7 +79,7 @@ pub record GlyphPairFaults : Type 0 where
   pub offset : reads_pair (pair_lookup (1 ∷ 10 ∷ 4 ∷ 0 ∷ 200 ∷ 2 ∷ 1 ∷ 5 ∷ 5 ∷ 100 ∷ [])) 5 6 ≡ Err 218
   pub pair_set : reads_pair (pair_lookup (1 ∷ 12 ∷ 4 ∷ 0 ∷ 1 ∷ 500 ∷ 1 ∷ 1 ∷ 5 ∷ [])) 5 6 ≡ Err 508
   -- second glyphs are read until the match, 6 bytes on for a value and a value
-  pub match : (reads_pair (pair_lookup (1 ∷ 12 ∷ 4 ∷ 4 ∷ 1 ∷ 18 ∷ 1 ∷ 1 ∷ 5 ∷ 2 ∷ 6 ∷ 1 ∷ 2 ∷ [])) 5 6 ≡ Ok (Some (read_advance (pos 1) ∷ read_advance (pos 2) ∷ []))) × (reads_pair (pair_lookup (1 ∷ 12 ∷ 4 ∷ 4 ∷ 1 ∷ 18 ∷ 1 ∷ 1 ∷ 5 ∷ 2 ∷ 6 ∷ 1 ∷ 2 ∷ [])) 5 7 ≡ Err 34)
+  pub search : (reads_pair (pair_lookup (1 ∷ 12 ∷ 4 ∷ 4 ∷ 1 ∷ 18 ∷ 1 ∷ 1 ∷ 5 ∷ 2 ∷ 6 ∷ 1 ∷ 2 ∷ [])) 5 6 ≡ Ok (Some (read_advance (pos 1) ∷ read_advance (pos 2) ∷ []))) × (reads_pair (pair_lookup (1 ∷ 12 ∷ 4 ∷ 4 ∷ 1 ∷ 18 ∷ 1 ∷ 1 ∷ 5 ∷ 2 ∷ 6 ∷ 1 ∷ 2 ∷ [])) 5 7 ≡ Err 34)
   pub none : reads_pair (pair_lookup (1 ∷ 12 ∷ 4 ∷ 4 ∷ 1 ∷ 18 ∷ 1 ∷ 1 ∷ 5 ∷ 1 ∷ 6 ∷ 1 ∷ 2 ∷ [])) 5 7 ≡ Ok None
 
 -- PairPos 2: 2, coverage 20, format 4, format 0, class definition 1 at 26, class definition 2 at 34, counts n1 and n2, two records,

@@ -2,11 +2,11 @@
 use Rattle.std.proofs.Common.{◌≡◌, ℕ, zero, suc, ◌<◌, ◌≤◌, Bool, true, false, List, [], ◌∷◌, ◌++◌, length, get_or, take, drop, set, Ok, Err, Ordering, Less, Equal, Greater, sym, refl, ap, ◌∙◌, arith}
 use Rattle.std.specs.Ordering.{is_lt, ordering_reverse}
 use Rattle.std.proofs.lemmas.List.{set-get_or}
-use Rattle.spec.specs.Lists.{inserted, replaced}
-use Rattle.tables.specs.Tables.{before, with_value, Placed}
+use Rattle.spec.specs.Lists.{inserted}
+use Rattle.tables.specs.Tables.{before, inserted_last, with_value, Placed}
 use Rattle.tables.proofs.KeyOrder.{tail_past}
 
--- `inserted` and `replaced` in one: `pick` says which of two that are equal stays
+-- `inserted` and `inserted_last` in one: `pick` says which of two that are equal stays
 abbrev put : {A : Type 0} → (A → A → A) → (A → A → Bool) → A → List A → List A
 put pick less x [] = x ∷ []
 put pick less x (y ∷ ys) = elim (less x y) [ true ↦ x ∷ y ∷ ys | false ↦ elim (less y x) [ true ↦ y ∷ put pick less x ys | false ↦ pick y x ∷ ys ] ]
@@ -16,7 +16,7 @@ module _ {A : Type 0} (less : A → A → Bool) (x : A) where
   first_put [] = refl
   first_put (y ∷ ys) = ap (λ zs. elim (less x y) [ true ↦ x ∷ y ∷ ys | false ↦ elim (less y x) [ true ↦ y ∷ zs | false ↦ y ∷ ys ] ]) (first_put ys)
 
-  last_put : (ys : List A) → put (λ old new. new) less x ys ≡ replaced less x ys
+  last_put : (ys : List A) → put (λ old new. new) less x ys ≡ inserted_last less x ys
   last_put [] = refl
   last_put (y ∷ ys) = ap (λ zs. elim (less x y) [ true ↦ x ∷ y ∷ ys | false ↦ elim (less y x) [ true ↦ y ∷ zs | false ↦ x ∷ ys ] ]) (last_put ys)
 
@@ -74,12 +74,12 @@ module _ {K V : Type 0} (c : K → K → Ordering) (flip : (x y : K) → c x y �
   pub first_new : (ps : List (K × V)) (i : ℕ) → Placed c ps k (Err i) → take i ps ++ (k, v) ∷ drop i ps ≡ inserted (before c) (k, v) ps
   first_new ps i h = sym (put_new (λ old new. old) ps i h) ∙ first_put (before c) (k, v) ps
 
-  pub last_new : (ps : List (K × V)) (i : ℕ) → Placed c ps k (Err i) → take i ps ++ (k, v) ∷ drop i ps ≡ replaced (before c) (k, v) ps
+  pub last_new : (ps : List (K × V)) (i : ℕ) → Placed c ps k (Err i) → take i ps ++ (k, v) ∷ drop i ps ≡ inserted_last (before c) (k, v) ps
   last_new ps i h = sym (put_new (λ old new. new) ps i h) ∙ last_put (before c) (k, v) ps
 
   pub first_old : (ps : List (K × V)) (i : ℕ) → Placed c ps k (Ok i) → ps ≡ inserted (before c) (k, v) ps
   first_old ps i h = sym (set-get_or ps i (k, v)) ∙ sym (put_same (λ old new. old) ps i (k, v) h) ∙ first_put (before c) (k, v) ps
 
-  pub last_old : ((x y : K) → c x y ≡ Equal → x ≡ y) → (ps : List (K × V)) (i : ℕ) → Placed c ps k (Ok i) → with_value ps i v ≡ replaced (before c) (k, v) ps
+  pub last_old : ((x y : K) → c x y ≡ Equal → x ≡ y) → (ps : List (K × V)) (i : ℕ) → Placed c ps k (Ok i) → with_value ps i v ≡ inserted_last (before c) (k, v) ps
   last_old exact ps i h =
       sym (value_set ps i k v (k, v) h.0 (exact k _ (h.2 (k, v)))) ∙ sym (put_same (λ old new. new) ps i (k, v) h) ∙ last_put (before c) (k, v) ps

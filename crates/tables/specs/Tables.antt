@@ -19,6 +19,11 @@ abbrev pub picked : {A : Type 0} → List A → List ℕ → List A
 picked rows [] = []
 picked rows (n ∷ ns) = take 1 (drop n rows) ++ picked rows ns
 
+-- x in its place among ys, which stand in the order `before`; one that is equal in that order makes way
+abbrev pub inserted_last : {A : Type 0} → (A → A → Bool) → A → List A → List A
+inserted_last before x [] = x ∷ []
+inserted_last before x (y ∷ ys) = elim (before x y) [ true ↦ x ∷ y ∷ ys | false ↦ elim (before y x) [ true ↦ y ∷ inserted_last before x ys | false ↦ x ∷ ys ] ]
+
 module _ {K V : Type 0} where
   -- the pairs with another value at a place
   abbrev pub with_value : List (K × V) → ℕ → V → List (K × V)

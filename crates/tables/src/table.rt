@@ -3,8 +3,8 @@
 
 ghost use Rattle.std.specs.Prelude.{◌≡◌, ℕ, ◌+◌, ◌-◌, ◌<◌, ◌≤◌, min, [], length, MatchResult, nat_lt, slice_index_or};
 ghost use Rattle.std.specs.List.{insert as put_at};
-ghost use Rattle.spec.specs.Lists.{at, inserted, replaced};
-ghost use Rattle.tables.specs.Tables.{pairs, most, lookup, at_or_above, before, Placed, Sound, Ordered, Added, Inserted, Revalued};
+ghost use Rattle.spec.specs.Lists.{at, inserted};
+ghost use Rattle.tables.specs.Tables.{pairs, most, lookup, at_or_above, before, inserted_last, Placed, Sound, Ordered, Added, Inserted, Revalued};
 
 use crate::key::Key;
 use crate::rows::{row, seek};
@@ -151,7 +151,7 @@ impl<'a, K: Key, V: Copy> OrderedTable<'a, K, V> {
 
     // Adds a pair; an old key takes the new value.
     pub fn insert_last(&mut self, key: K, value: V) -> Result<(), Denial>
-        ensures { Inserted K.Key.cmp self.old self.new (replaced (before K.Key.cmp) (key, value) (pairs self.old)) result }
+        ensures { Inserted K.Key.cmp self.old self.new (inserted_last (before K.Key.cmp) (key, value) (pairs self.old)) result }
     {
         match self.place(key) {
             Ok(i) => {

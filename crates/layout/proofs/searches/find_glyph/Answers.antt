@@ -1,6 +1,6 @@
 use Rattle.std.proofs.lemmas.Result.{err_from_is_err_and}
 use Rattle.layout.proofs.Searching.{glyph_fault, glyph_found, glyph_next}
-use Rattle.layout.proofs.finding.find_glyph.Goals as goal
+use Rattle.layout.proofs.searches.find_glyph.Goals as goal
 
 pub returns-in_err-field_at : goal.returns-in_err-field_at
 returns-in_err-field_at c =

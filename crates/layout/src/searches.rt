@@ -1,7 +1,7 @@
-// Finding in coverage tables and class definitions: the first match in written order, reading no field beyond it.
+// Searches of coverage tables and class definitions: the first match in written order, reading no field beyond it.
 
 ghost use Rattle.std.specs.Prelude.{◌≡◌, ◌^◌, ◌<◌};
-ghost use Rattle.spec.specs.Meaning.{find_glyph, find_range};
+ghost use Rattle.spec.specs.Meaning.{glyph_search, range_search};
 
 use crate::reading::field_at;
 
@@ -13,7 +13,7 @@ pub(crate) fn find_glyph(
     count: u16,
 ) -> Result<Option<u32>, usize>
     requires { at < 2 ^ 40 }
-    ensures { result ≡ find_glyph bytes.now glyph at 0 count }
+    ensures { result ≡ glyph_search bytes.now glyph at 0 count }
 {
     for i in 0..count {
         if field_at(bytes, at + 2 * i as usize)? == glyph {
@@ -32,7 +32,7 @@ pub(crate) fn find_range(
     count: u16,
 ) -> Result<Option<(u16, u16)>, usize>
     requires { at < 2 ^ 40 }
-    ensures { result ≡ find_range bytes.now glyph at count }
+    ensures { result ≡ range_search bytes.now glyph at count }
 {
     for i in 0..count {
         let range = at + 6 * i as usize;

@@ -1,7 +1,7 @@
 use Rattle.std.proofs.Common.{arith}
 use Rattle.std.proofs.lemmas.Result.{err_from_is_err_and}
 use Rattle.layout.proofs.Searching.{start_fault, end_fault, third_fault, range_found, start_above, end_below}
-use Rattle.layout.proofs.finding.find_range.Goals as goal
+use Rattle.layout.proofs.searches.find_range.Goals as goal
 
 pub returns-in_err-start : goal.returns-in_err-start
 returns-in_err-start c =
