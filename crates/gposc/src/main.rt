@@ -1,4 +1,6 @@
 // The command `gposc`: checks rule files.
+#![tactic(auto)]
+
 mod check;
 mod enter;
 
