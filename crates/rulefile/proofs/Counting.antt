@@ -1,6 +1,6 @@
 -- Counting the statements that pass a test.
-use Rattle.std.proofs.Common.{◌≡◌, ℕ, ◌+◌, ◌<◌, Bool, true, false, cond, List, map, length, get_or, drop, sym, ap, ◌∙◌, arith}
-use Rattle.std.proofs.lemmas.List.{at_drop_more, drop-map}
+use Rattle.std.proofs.Common.{◌≡◌, ℕ, ◌+◌, ◌<◌, ◌≤◌, Bool, true, false, cond, List, map, length, get_or, drop, sym, ap, ◌∙◌, arith}
+use Rattle.std.proofs.lemmas.List.{at_drop_more, at_drop_all, drop-map}
 use Rattle.rulefile.specs.declared.rules.Line.{Line}
 use Rattle.rulefile.specs.Queries.{how_many}
 use Rattle.rulefile.specs.Steps.{Told, told}
@@ -22,4 +22,9 @@ module _ (test : Told → Bool) (lines : List Line) (at n : ℕ) {all : ℕ} (in
   passed_over l h is e =
       let more = left_at l h is in
       let none = ap (λ t. cond {A = ℕ} t 1 0) e in
+      omega arith
+
+  pub count_ends : length lines ≤ at → n ≡ all
+  count_ends h =
+      let none : how_many test (drop at (map told lines)) ≡ 0 = ap (how_many test) (drop-map told at lines) ∙ at_drop_all (λ ls. how_many test (map told ls)) lines at h in
       omega arith

@@ -1,5 +1,6 @@
 pub mod Reading
 pub mod Cutting
+pub mod Finding
 pub mod Recording
 pub mod Listing
 pub mod Lines

@@ -4,6 +4,7 @@ use Rattle.std.proofs.lemmas.List.{drop_more, nil_from_length, length-take, leng
 use Rattle.std.proofs.lemmas.Bool.{cases_lt}
 use Rattle.std.proofs.lemmas.Bool.Decides.{nat_tests}
 use Rattle.rulefile.specs.declared.fault.Fault.{Fault}
+use Rattle.rulefile.specs.declared.fault.Fault.TheVariants as fault
 use Rattle.rulefile.specs.Names.{Named}
 use Rattle.rulefile.specs.Outcomes.{then, word_by_word}
 use Rattle.rulefile.specs.Records.{metrics_from, no_metric, record_of, words_between}
@@ -29,6 +30,12 @@ module _ {X : Type 0} (add : X → List ℕ → Result X Fault) (x : X) (ws : Li
       ap (λ o. then o (λ more. word_by_word add more (words_between ws (at + 1) to))) (e ∙ ap (add x) is)
       ∙ sym (ap (word_by_word add x) (between_more ws at to h k)) ∙ inv
 
+  pub words_end : min to (length ws) ≤ at → Ok x ≡ all
+  words_end h = sym (ap (word_by_word add x) (between_end ws at to h)) ∙ inv
+
+pub record_none : (es : List Named) (ws : List (List ℕ)) (from to : ℕ) → min to (length ws) ≤ from → Err fault.NoRecord ≡ record_of es (words_between ws from to)
+record_none es ws from to h = ap (record_of es) (sym (between_end ws from to h))
+
 one_word : (ws : List (List ℕ)) (from to end : ℕ) → end ≡ min to (length ws) → from + 1 ≡ end → words_between ws from to ≡ get_or ws from [] ∷ []
 one_word ws from to end e h =
     between_more ws from to (omega arith) (omega arith) ∙ ap (λ l. get_or ws from [] ∷ l) (between_end ws (from + 1) to (omega arith))
@@ -39,6 +46,13 @@ two_words ws from to end e h =
     ∙ ap (λ l. get_or ws from [] ∷ l) (between_more ws (from + 1) to (omega arith) (omega arith))
 
 module _ (es : List Named) (ws : List (List ℕ)) (from to end : ℕ) (e : end ≡ min to (length ws)) (h : from < end) where
+  pub record_dash : true ≡ (eqb (from + 1) end && same_word (get_or ws from []) (codes "-")) → Ok no_metric ≡ record_of es (words_between ws from to)
+  record_dash t =
+      let one : from + 1 ≡ end = grind (arith, nat_tests) in
+      let dash : true ≡ same_word (get_or ws from []) (codes "-") = grind (arith, nat_tests) in
+      ap (λ x. elim x [ true ↦ Ok no_metric | false ↦ metrics_from es no_metric (get_or ws from [] ∷ []) ]) dash
+      ∙ sym (ap (record_of es) (one_word ws from to end e one))
+
   pub record_metrics : false ≡ (eqb (from + 1) end && same_word (get_or ws from []) (codes "-")) → metrics_from es no_metric (words_between ws from to) ≡ record_of es (words_between ws from to)
   record_metrics t =
       ⊎_elim
