@@ -5,7 +5,7 @@ ghost use Rattle.spec.specs.Fields.{big_endian};
 ghost use Rattle.spec.specs.Entries.{unsorted};
 ghost use Rattle.spec.specs.Coverage.{ranges};
 ghost use Rattle.spec.specs.Classes.{first_listed, class_array, class_range_fields};
-ghost use Rattle.spec.specs.Classes.{span as SpanOf};
+ghost use Rattle.spec.specs.Classes.{span as span_of};
 ghost use Rattle.laws.specs.Conditions.{Rising};
 ghost use Rattle.layout.specs.Writing.{Wrote};
 ghost use Rattle.layout.specs.Listing.{listed, here};
@@ -56,7 +56,7 @@ pub(crate) fn count_ranges(classes: &[GlyphClass]) -> usize
 // The first glyph, and how many there are from it to the last.
 pub(crate) fn first_and_span(classes: &[GlyphClass]) -> (u16, usize)
     ensures first { result.0 ≡ first_listed (listed classes.now) }
-    ensures span { result.1 ≡ SpanOf (listed classes.now) }
+    ensures span { result.1 ≡ span_of (listed classes.now) }
     ensures bound { result.1 ≤ 65536 }
 {
     let n = classes.len();
@@ -111,7 +111,7 @@ pub(crate) fn write_array(
 ) -> Result<(), Denial>
     requires rises { Rising (map (λ p. p.0) (listed classes.now)) }
     requires first { first ≡ first_listed (listed classes.now) }
-    requires span { span ≡ SpanOf (listed classes.now) }
+    requires span { span ≡ span_of (listed classes.now) }
     requires small { (first < 65536) × (span ≤ 65536) }
     requires room { out.old.used ≤ length out.old.bytes.now }
     ensures { Wrote result out.old out.new (big_endian (class_array (listed classes.now))) }

@@ -1,4 +1,4 @@
-// Reads a whole rule file. Linear in the text, but that each name is sought among those before it.
+// Reads a whole rule file. Linear in the text, but for the search of each name among those before it.
 ghost use Rattle.rulefile.specs.Files.{Parsed, Rises, Within, error_at, file_of, finished, lines_from, lines_of, nothing, parsed};
 ghost use Rattle.rulefile.specs.Steps.{state_of};
 ghost use Rattle.rulefile.specs.Words.{words_at};

@@ -1,4 +1,4 @@
-// Finds what a name stands for. The names are gone through one by one, those given so far.
+// Finds what a name stands for. Each search goes through the names given so far.
 ghost use Rattle.rulefile.specs.Names.{named, place_of, raw_reference, raw_set, reference_of, set_reference_of};
 ghost use Rattle.rulefile.specs.Words.{position};
 ghost use Rattle.std.specs.Prelude.{◌≡◌, ◌≤◌, map, length};
