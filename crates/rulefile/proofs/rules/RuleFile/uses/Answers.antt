@@ -1,7 +1,7 @@
 use Rattle.std.proofs.Common.{◌≡◌, ℕ, ◌+◌, drop, vec_items, sym, ◌∙◌, subst, arith}
 use Rattle.rulefile.specs.Files.{file_of}
 use Rattle.rulefile.specs.Queries.{how_many, using_entry}
-use Rattle.rulefile.proofs.Counting.{counted, passed_over}
+use Rattle.rulefile.proofs.Counting.{counted, passed_over, count_ends}
 use Rattle.rulefile.proofs.rules.RuleFile.uses.Goals as goal
 use Rattle.rulefile.proofs.rules.RuleFile.uses.Goals.{then-uses, else-uses}
 
@@ -15,3 +15,8 @@ loop-at-preserved c =
       | else-uses w ↦
           (omega (arith, w.count-is), subst (λ (n : ℕ). n + left ≡ all) (sym w.count-is) (passed_over (using_entry c.args.place) (vec_items c.args.self.now.statements) c.loop-at.at c.loop-at.count c.loop-at.invariant.1 c.index.result.now (omega (arith, c.args.self.now.statements.ok.0)) c.index.ensures (sym c.uses.ensures ∙ w.if-uses.false)))
     ]
+
+pub returns : goal.returns
+returns c =
+    count_ends (using_entry c.args.place) (vec_items c.args.self.now.statements) c.loop-at.at c.loop-at.count c.loop-at.invariant.1
+    (omega (arith, c.args.self.now.statements.ok.0))
