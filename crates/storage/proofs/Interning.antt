@@ -1,7 +1,6 @@
 -- The number of an entry, and the entries with one more.
-use Rattle.std.proofs.Common.{◌≡◌, ℕ, suc, ◌+◌, ◌<◌, ◌≤◌, Bool, true, false, not, ◌&&◌, ◌||◌, ltb, leb, List, [], ◌∷◌, ◌++◌, map, length, get_or, drop, sym, refl, ap, ◌∙◌, true≢false, arith, le-ltb}
-use lib.ListN.{length-map}
-use Rattle.std.proofs.lemmas.List.{drop_more, drop_all, get_or-map, length_push}
+use Rattle.std.proofs.Common.{◌≡◌, ℕ, suc, ◌+◌, ◌<◌, ◌≤◌, Bool, true, false, not, ◌&&◌, ◌||◌, ltb, leb, List, [], ◌∷◌, ◌++◌, length, sym, refl, ap, ◌∙◌, true≢false, arith, le-ltb}
+use Rattle.std.proofs.lemmas.List.{length_push}
 use Rattle.std.proofs.lemmas.Bool.Decides.{nat_tests}
 use Rattle.spec.specs.Lists.{any, sum_of}
 use Rattle.spec.specs.Rules.{interned, number_in, overfull}
@@ -55,29 +54,6 @@ module _ {A : Type 0} (eq : A → A → Bool) (x : A) where
 
   pub interned_new : (ys : List A) → any (λ y. eq y x) ys ≡ false → interned eq ys x ≡ ys ++ x ∷ []
   interned_new ys h = ap (λ b. elim b [ true ↦ ys | false ↦ ys ++ (x ∷ []) ]) h
-
-  -- ---- a search over a map, by what is left
-  module _ {B : Type 0} (f : B → A) (xs : List B) (i : ℕ) (b : B) (l : i < length xs) (e : b ≡ get_or xs i b) where
-    here : drop i (map f xs) ≡ f b ∷ drop (i + 1) (map f xs)
-    here =
-        let k : i < length (map f xs) = (let q = length-map xs f in omega arith) in
-        drop_more (map f xs) i (f b) k ∙ ap (λ y. y ∷ drop (i + 1) (map f xs)) (get_or-map f xs i b (f b) l ∙ ap f (sym e))
-
-    pub find_go : false ≡ eq (f b) x → number_in eq (map f xs) x ≡ i + number_in eq (drop i (map f xs)) x → number_in eq (map f xs) x ≡ (i + 1) + number_in eq (drop (i + 1) (map f xs)) x
-    find_go t v =
-        let s : number_in eq (drop i (map f xs)) x ≡ suc (number_in eq (drop (i + 1) (map f xs)) x) = ap (λ ys. number_in eq ys x) here ∙ number_miss (f b) _ (sym t) in
-        omega arith
-
-    pub find_stop : true ≡ eq (f b) x → number_in eq (map f xs) x ≡ i + number_in eq (drop i (map f xs)) x → i ≡ number_in eq (map f xs) x
-    find_stop t v =
-        let s : number_in eq (drop i (map f xs)) x ≡ 0 = ap (λ ys. number_in eq ys x) here ∙ number_hit (f b) _ (sym t) in
-        omega arith
-
-  pub find_end : {B : Type 0} (f : B → A) (xs : List B) (i : ℕ) → i ≡ length xs → number_in eq (map f xs) x ≡ i + number_in eq (drop i (map f xs)) x → i ≡ number_in eq (map f xs) x
-  find_end f xs i h v =
-      let l : length (map f xs) ≤ i = (let q = length-map xs f in omega arith) in
-      let s : number_in eq (drop i (map f xs)) x ≡ 0 = ap (λ ys. number_in eq ys x) (drop_all i (map f xs) l) in
-      omega arith
 
 -- ---- places
 pub sum_push : {A : Type 0} (f : A → ℕ) (ys : List A) (x : A) → sum_of f (ys ++ x ∷ []) ≡ sum_of f ys + f x

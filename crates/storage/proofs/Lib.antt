@@ -1,6 +1,6 @@
 pub mod Checking
 pub mod Entering
 pub mod Interning
-pub mod Rising
-pub mod SameLists
+pub mod Numbers
+pub mod Regions
 pub mod Spans

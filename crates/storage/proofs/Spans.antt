@@ -1,7 +1,7 @@
 -- Spans that stand one after another in a pool, and a list that is written behind them.
-use Rattle.std.proofs.Common.{◌≡◌, ℕ, ◌+◌, ◌-◌, ◌<◌, ◌≤◌, Bool, true, false, ◌&&◌, eqb, List, [], ◌∷◌, ◌++◌, map, length, get_or, take, drop, set, sym, refl, ap, ◌∙◌, true≢false, append_assoc, arith, length-drop, length-take, eq-eqb, eqb-true}
+use Rattle.std.proofs.Common.{◌≡◌, ℕ, ◌+◌, ◌-◌, ◌<◌, ◌≤◌, Bool, true, false, ◌&&◌, eqb, List, [], ◌∷◌, ◌++◌, map, length, take, drop, set, sym, refl, ap, ◌∙◌, true≢false, arith, length-drop, length-take, eq-eqb, eqb-true}
 use lib.ListN.{length-map}
-use Rattle.std.proofs.lemmas.List.{take_more, take_more_set, take-take, take_at, drop_at, drop-take, length-take-le, map_push}
+use Rattle.std.proofs.lemmas.List.{take_more_set, take-take, take_at, drop_at, drop-take, length-take-le, map_push}
 use Rattle.spec.specs.Lists.{sum_of}
 use Rattle.storage.specs.declared.span.Span.{Span}
 use Rattle.storage.specs.Interners.{laid, entry}
@@ -32,14 +32,6 @@ module _ {H : Type 0} where
       ap (λ tb. laid 0 (take (used + 1) (set tb used s)) (filled + s.len)) t
       ∙ ap (λ ss. laid 0 ss (filled + s.len)) (take_more_set table used s h)
       ∙ laid_push 0 (take used table) filled s l e
-
--- one element more is written
-pub fill_step : {A : Type 0} (xs front list : List A) (s k : ℕ) (x : A) → s + k < length xs → k < length list → x ≡ get_or list k x → take (s + k) xs ≡ front ++ take k list
-    → take (s + (k + 1)) (set xs (s + k) x) ≡ front ++ take (k + 1) list
-fill_step xs front list s k x h i e v =
-    let n : s + (k + 1) ≡ (s + k) + 1 = omega arith in
-    let t : take (k + 1) list ≡ take k list ++ x ∷ [] = take_more list k x i ∙ ap (λ y. take k list ++ y ∷ []) (sym e) in
-    ap (λ m. take m (set xs (s + k) x)) n ∙ take_more_set xs (s + k) x h ∙ ap (λ ys. ys ++ x ∷ []) v ∙ append_assoc front (take k list) (x ∷ []) ∙ ap (λ ys. front ++ ys) (sym t)
 
 module _ {T H : Type 0} where
   -- ---- how many elements the lists have together

@@ -1,14 +1,10 @@
 -- Which entry of a delta list of the definitions each value of the code is.
-use Rattle.std.specs.Prelude.{Bool, ◌&&◌, List, map, ◌==◌}
+use Rattle.std.specs.Prelude.{List, map}
 use Rattle.spec.specs.Entries.{Delta}
-use Rattle.spec.specs.Fields.{same_signed}
 use Rattle.storage.specs.declared.delta.Delta as code_delta
 
 abbrev pub delta_of : code_delta.Delta → Delta
 delta_of d = record { region = d.region; delta = d.delta }
-
-abbrev pub same_delta : code_delta.Delta → code_delta.Delta → Bool
-same_delta x y = x.region == y.region && same_signed x.delta y.delta
 
 abbrev pub deltas_of : List code_delta.Delta → List Delta
 deltas_of ds = map delta_of ds

@@ -1,25 +1,36 @@
 // Keeps each different list once and numbers it from 0, over memory that the caller brings.
 // Entering compares with every list held: linear in what is held.
 
-ghost use Rattle.std.specs.Prelude.{◌≡◌, ℕ, ◌+◌, ◌-◌, ◌≤◌, min, ◌&&◌, [], ◌++◌, length, take, nat_le, nat_lt};
+ghost use Rattle.std.specs.Prelude.{◌≡◌, min, [], length};
+ghost use Rattle.std.specs.List.{position};
 ghost use Rattle.std.specs.Option.{option_map};
-ghost use Rattle.spec.specs.Rules.{number_in};
 ghost use Rattle.spec.specs.Lists.{at};
-ghost use Rattle.storage.specs.Interners.{contents, places, room, same_entry, Sound, Entered};
+ghost use Rattle.storage.specs.Interners.{Entered, same_entry};
 
 use crate::exact::Exact;
-use crate::lists::{elements, find};
 use crate::span::Span;
 use denials::denial::{Denial, Part, Word};
+use std::marker::Model;
 
+// The first `used` places of the table are spans of the first `filled` elements of the pool, one after another.
 #[derive(Drop)]
-pub struct Interner<'a, T, H> {
+pub struct Interner<'a, T: Exact, H: Exact> {
     pool: &'a mut [T],
     table: &'a mut [Span<H>],
-    most: u16,
     part: Part,
     used: usize,
     filled: usize,
+}
+
+impl<'a, T: Exact, H: Exact> Model for Interner<'a, T, H> {
+    ghost use Rattle.std.specs.Prelude.{map, length, take};
+    ghost use Rattle.storage.specs.Interners.{Interned, IsLaid, entry};
+
+    ghost Value = { Interned T H };
+
+    ghost view = { λ d. record { contents = map (entry d.pool.now) (take d.used d.table.now); places = length d.table.now; room = length d.pool.now; part = d.part } };
+
+    ghost invariant = { λ d. IsLaid d.pool.now d.table.now d.used d.filled };
 }
 
 impl<'a, T: Exact, H: Exact> Interner<'a, T, H> {
@@ -30,16 +41,15 @@ impl<'a, T: Exact, H: Exact> Interner<'a, T, H> {
         most: usize,
         part: Part,
     ) -> Interner<'a, T, H>
-        ensures empty { contents result ≡ [] }
-        ensures sound { Sound result }
-        ensures places { places result ≡ min (length table.old) (min most 65535) }
-        ensures room { room result ≡ length pool.old }
+        ensures empty { result.contents ≡ [] }
+        ensures places { result.places ≡ min (length table.old) (min most 65535) }
+        ensures room { result.room ≡ length pool.old }
         ensures part { result.part ≡ part }
     {
+        let places = table.len().min(most.min(65535));
         Interner {
             pool,
-            table,
-            most: most.min(65535) as u16,
+            table: &mut table[..places],
             part,
             used: 0,
             filled: 0,
@@ -48,79 +58,49 @@ impl<'a, T: Exact, H: Exact> Interner<'a, T, H> {
 
     // How many lists there are.
     pub fn len(&self) -> usize
-        ensures { result ≡ length (contents self.now) }
+        ensures { result ≡ length self.now.contents }
     {
-        self.table.len().min(self.used)
+        self.used
     }
 
     // The list of a number, and what stands beside it.
     pub fn get(&self, n: u16) -> Option<(H, &[T])>
-        ensures { option_map (λ p. (p.0, p.1.now)) result ≡ at (contents self.now) n }
+        ensures { option_map (λ p. (p.0, p.1.now)) result ≡ at self.now.contents n }
     {
-        let count = self.used.min(self.table.len());
-        let spans = &self.table[0..count];
-        if n as usize >= spans.len() {
-            return None;
-        }
-        let span = spans[n as usize];
-        Some((span.head, elements(self.pool, span)))
+        let span = self.table[..self.used].get(n as usize)?;
+        Some(span.entry(self.pool))
     }
 
-    // The number of a list, or how many lists there are.
-    fn number(&self, head: H, list: &[T]) -> u16
-        ensures { Sound self.now → result ≡ number_in (same_entry H.Exact.equal T.Exact.equal) (contents self.now) (head, list.now) }
+    // The number of a list, if it is held.
+    fn number(&self, head: H, list: &[T]) -> Option<u16>
+        ensures { result ≡ position (λ e. same_entry H.eq T.eq e (head, list.now)) self.now.contents }
     {
-        let count = self.used.min(self.table.len());
-        let spans = &self.table[0..count];
-        find(self.pool, spans, head, list).min(self.most as usize) as u16
-    }
-
-    // Whether there is a place, and room for `more` elements.
-    fn takes(&self, more: usize) -> bool
-        ensures { result ≡ (nat_lt self.now.used (places self.now) && nat_le (self.now.filled + more) (room self.now)) }
-    {
-        self.used < self.table.len()
-            && self.used < self.most as usize
-            && self.filled <= self.pool.len()
-            && more <= self.pool.len() - self.filled
-    }
-
-    // Writes the list behind what the pool holds.
-    fn fill(&mut self, list: &[T])
-        requires { self.old.filled + length list.now ≤ length self.old.pool.now }
-        ensures pool { take (self.old.filled + length list.now) self.new.pool.now ≡ take self.old.filled self.old.pool.now ++ list.now }
-        ensures long { length self.new.pool.now ≡ length self.old.pool.now }
-        ensures table { self.new.table.now ≡ self.old.table.now }
-        ensures most { self.new.most ≡ self.old.most }
-        ensures part { self.new.part ≡ self.old.part }
-    {
-        let start = self.filled;
-        for k in 0..list.len() {
-            self.pool[start + k] = list[k];
-        }
+        self.table[..self.used]
+            .iter()
+            .position(|span| span.holds(self.pool, head, list))
+            .map(|n| n as u16)
     }
 
     // The old number of a list, or the next, or `full`.
     pub fn enter(&mut self, head: H, list: &[T]) -> Result<u16, Denial>
-        ensures { Entered (same_entry H.Exact.equal T.Exact.equal) self.old self.new (head, list.now) result }
+        ensures { Entered (same_entry H.eq T.eq) self.old self.new (head, list.now) result }
     {
-        let used = self.used;
-        let filled = self.filled;
-        let n = self.number(head, list);
-        if (n as usize) < used {
+        if let Some(n) = self.number(head, list) {
             return Ok(n);
         }
-        if !self.takes(list.len()) {
+        if self.used == self.table.len() || list.len() > self.pool.len() - self.filled {
             return Err(Denial::new(Word::Full, 0, self.part));
         }
-        self.fill(list);
-        self.table[used] = Span {
-            start: filled,
+        let n = self.used;
+        let start = self.filled;
+        let end = start + list.len();
+        self.pool[start..end].copy_from_slice(list);
+        self.table[n] = Span {
+            start,
             len: list.len(),
             head,
         };
-        self.used = used + 1;
-        self.filled = filled + list.len();
-        Ok(n)
+        (self.used, self.filled) = (n + 1, end);
+        Ok(n as u16)
     }
 }

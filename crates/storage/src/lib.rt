@@ -4,9 +4,9 @@
 pub mod delta;
 pub mod entries;
 pub mod exact;
-mod faults;
+pub mod faults;
 pub mod interner;
-mod lists;
+pub mod rising;
 pub mod span;
 #[cfg(test)]
 mod tests;

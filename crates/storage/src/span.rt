@@ -1,8 +1,32 @@
 // Where a list stands in a pool, and what stands beside the list.
 
-#[derive(Clone, Copy)]
+ghost use Rattle.std.specs.Prelude.{◌≡◌};
+
+// Start and length in a pool, not the list itself: the pool is memory that the caller brings, and grows behind the lists.
+#[derive(Clone, Copy, Debug)]
 pub struct Span<H> {
     pub start: usize,
     pub len: usize,
     pub head: H,
+}
+
+impl<H: Eq + Copy> Span<H> {
+    ghost use Rattle.storage.specs.Interners.{entry, same_entry};
+
+    // The entry of this span, as far as its list lies in the pool.
+    pub(crate) fn entry<'p, T: Copy>(&self, pool: &'p [T]) -> (H, &'p [T])
+        ensures head { result.0 ≡ (entry pool.now self.now).0 }
+        ensures list { result.1.now ≡ (entry pool.now self.now).1 }
+    {
+        let start = self.start.min(pool.len());
+        let rest = &pool[start..];
+        (self.head, &rest[..self.len.min(rest.len())])
+    }
+
+    // Whether the entry of this span is this one.
+    pub(crate) fn holds<T: Eq + Copy>(&self, pool: &[T], head: H, list: &[T]) -> bool
+        ensures { result ≡ same_entry H.eq T.eq (entry pool.now self.now) (head, list.now) }
+    {
+        self.entry(pool) == (head, list)
+    }
 }

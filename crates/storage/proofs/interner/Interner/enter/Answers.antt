@@ -1,52 +1,40 @@
-use Rattle.std.proofs.Common.{◌≡◌, ◌+◌, ◌≤◌, min, length, take, set, refl, ap, ◌∙◌, arith, length-set}
-use Rattle.spec.specs.Denials.{Word, Answer, arises}
-use Rattle.denials.specs.Denials.{part_of}
-use Rattle.storage.specs.Interners.{contents, places, room, same_entry, Sound}
-use Rattle.storage.proofs.Entering.{room_parts, enter_old, enter_full, enter_new}
-use Rattle.storage.proofs.SameLists.{entry_self}
-use Rattle.storage.proofs.Spans.{laid_more, length_is, weight_is, pushed}
+use Rattle.std.proofs.Common.{◌≡◌, ◌+◌, ◌-◌, ◌<◌, ◌⊎◌, length, sym, ◌∙◌, inl, inr, rules}
+use borrow.Rule.Slice.PartMut.{put_mid}
+use Rattle.storage.specs.Interners.{same_entry}
+use Rattle.storage.proofs.Entering.{enters_old, enters_full, enters_new, lies_more, entry_self}
 use Rattle.storage.proofs.interner.Interner.enter.Goals as goal
+use Rattle.storage.proofs.interner.Interner.enter.Goals.{then-self-via-then-self, then-self-via-else-self+then-list-self}
 
-pub returns-then-n-used : goal.returns-then-n-used
-returns-then-n-used g c =
-    let d = c.args.self.now in
-    let h : (s : Sound d) → d.used ≤ places d = λ s. omega (arith, s.in_table, s.in_most) in
-    let a = λ (s : Sound d). enter_old (same_entry g.H.Exact.equal g.T.Exact.equal) (places d) (room d) (λ e. e.1) (arises Word.full 0 (part_of d.part)) (contents d) (c.args.head, c.args.list.now) d.used d.filled
-    (length_is d.pool.now d.table.now d.used s.in_table) (weight_is d.pool.now (take d.used d.table.now) d.filled s.in_order s.in_pool)
-    c.number-n.result (c.number-n.ensures s) c.if-n-used.true (h s) s.in_pool in
-    record { answer = λ s. (a s).0; after = λ s. (a s).1; sound = λ s. s; same_places = refl; same_room = refl; same_part = refl }
+pub returns-in-Some : goal.returns-in-Some
+returns-in-Some g c =
+    let d = c.self.inside in
+    enters_old (same_entry g.H.PartialEq.eq g.T.PartialEq.eq) d.pool.now d.table.now d.part d.used d.filled c.self.invariant _ c.self.view_is (c.args.head, c.args.list.now) c.in-Some.n
+    (sym c.number.ensures ∙ c.in-Some.is)
 
-pub returns-then-not-takes : goal.returns-then-not-takes
-returns-then-not-takes g c =
-    let d = c.args.self.now in
-    let a = λ (s : Sound d). enter_full (same_entry g.H.Exact.equal g.T.Exact.equal) (places d) (room d) (λ e. e.1) (arises Word.full 0 (part_of d.part)) (contents d) (c.args.head, c.args.list.now) d.used d.filled
-    (length_is d.pool.now d.table.now d.used s.in_table) (weight_is d.pool.now (take d.used d.table.now) d.filled s.in_order s.in_pool)
-    c.number-n.result (c.number-n.ensures s) c.if-n-used.false c.if-not-takes.ensures in
-    record { answer = λ s. ap Answer.denied c.new.ensures ∙ (a s).0; after = λ s. (a s).1; sound = λ s. s; same_places = refl; same_room = refl; same_part = refl }
+pub returns-then-self : goal.returns-then-self
+returns-then-self g c =
+    let d = c.self.inside in
+    let lacks : (d.used ≡ length d.table.now) ⊎ (length d.pool.now - d.filled < length c.args.list.now) = elim c.then-self.branch [
+      | then-self-via-then-self w ↦ inl w.if-self.true
+      | then-self-via-else-self+then-list-self w ↦ inr w.if-list-self.true
+    ] in
+    enters_full (same_entry g.H.PartialEq.eq g.T.PartialEq.eq) d.pool.now d.table.now d.part d.used d.filled c.self.invariant _ c.self.view_is (c.args.head, c.args.list.now)
+    (sym c.number.ensures ∙ c.in_default.is) c.new.result c.new.ensures lacks
+
+pub invariant_of-self : goal.invariant_of-self
+invariant_of-self g c =
+    let d = c.self.inside in
+    let x : g.row.H.Denot × _ = (c.args.head, c.args.list.now) in
+    let k = d.filled + length x.1 - d.filled in
+    let longs : length (put_mid d.filled k d.pool.now c.copy_from_slice.new.self) ≡ length d.pool.now = search rules in
+    lies_more (same_entry g.H.PartialEq.eq g.T.PartialEq.eq) d.pool.now d.table.now d.part d.used d.filled c.self.invariant _ c.self.view_is x (sym c.number.ensures ∙ c.in_default.is)
+    (entry_self g.H.PartialEq.eq g.T.PartialEq.eq g.met.H.Exact.decides g.met.T.Exact.decides x) c.if-self.false c.if-list-self.false k _ c.copy_from_slice.ensures.after longs
 
 pub returns : goal.returns
 returns g c =
-    let d = c.args.self.now in
-    let u = c.fill.new.self in
-    let list = c.args.list.now in
-    let f = c.fill.ensures in
-    let t = room_parts d.used (length d.table.now) d.most d.filled (length c.args.list.now) (length d.pool.now) c.if-not-takes.ensures in
-    let lt : length u.table.now ≡ length d.table.now = ap length f.table in
-    let ls = length-set u.table.now d.used (record { start = d.filled; len = length list; head = c.args.head }) in
-    let lp = f.long in
-    let mo = f.most in
-    let a = λ (s : Sound d). enter_new (same_entry g.H.Exact.equal g.T.Exact.equal) (places d) (room d) (λ e. e.1) (arises Word.full 0 (part_of d.part)) (contents d) (c.args.head, c.args.list.now) d.used d.filled
-    (length_is d.pool.now d.table.now d.used s.in_table) (weight_is d.pool.now (take d.used d.table.now) d.filled s.in_order s.in_pool)
-    c.number-n.result (c.number-n.ensures s) c.if-n-used.false (entry_self g.H.Exact.equal g.T.Exact.equal g.met.H.Exact.decides g.met.T.Exact.decides _) c.if-not-takes.ensures in
-    let p = λ (s : Sound d). pushed d.pool.now u.pool.now list d.table.now u.table.now d.used d.filled c.args.head f.table t.0 s.in_pool s.in_order f.pool in
-    let h0 : d.used + 1 ≤ length (set u.table.now d.used (record { start = d.filled; len = length list; head = c.args.head })) = omega arith in
-    let h1 : d.used + 1 ≤ u.most = omega arith in
-    let h2 : d.filled + length list ≤ length u.pool.now = omega arith in
-    record {
-      answer = λ s. (a s).0;
-      after = λ s. p s ∙ (a s).1;
-      sound = λ s. record { in_table = h0; in_most = h1; in_pool = h2; in_order = laid_more d.table.now u.table.now d.used d.filled _ f.table t.0 s.in_order refl };
-      same_places = (λ i. min ((ls ∙ lt) i) (mo i));
-      same_room = lp;
-      same_part = f.part;
-    }
+    let d = c.self.inside in
+    let x : g.row.H.Denot × _ = (c.args.head, c.args.list.now) in
+    let k = d.filled + length x.1 - d.filled in
+    let longs : length (put_mid d.filled k d.pool.now c.copy_from_slice.new.self) ≡ length d.pool.now = search rules in
+    enters_new (same_entry g.H.PartialEq.eq g.T.PartialEq.eq) d.pool.now d.table.now d.part d.used d.filled c.self.invariant _ c.self.view_is x (sym c.number.ensures ∙ c.in_default.is)
+    (entry_self g.H.PartialEq.eq g.T.PartialEq.eq g.met.H.Exact.decides g.met.T.Exact.decides x) c.if-self.false c.if-list-self.false k _ c.copy_from_slice.ensures.after longs
