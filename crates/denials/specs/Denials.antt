@@ -1,5 +1,7 @@
 -- Which word, part and denial of the definitions each value of the code is.
-use Rattle.spec.specs.Denials.{Word, Part, Denial}
+use Rattle.std.specs.Prelude.{ℕ, List, ◌++◌, codes}
+use Rattle.std.specs.Fmt.{decimal}
+use Rattle.spec.specs.Denials.{Word, Part, Denial, number, text, part_text}
 use Rattle.denials.specs.declared.denial.Word as code_word
 use Rattle.denials.specs.declared.denial.Part as code_part
 use Rattle.denials.specs.declared.denial.Denial as code_denial
@@ -33,3 +35,9 @@ part_of Reader = Part.reader
 
 abbrev pub denial_of : code_denial.Denial → Denial
 denial_of d = record { word = word_of d.word; place = d.place; part = part_of d.part; depth = d.depth }
+
+-- as it is printed: the number of the word, the word, the place, the part and the depth
+abbrev pub shown : code_denial.Denial → List ℕ
+shown d =
+    decimal (number (word_of d.word)) ++ codes " " ++ text (word_of d.word)
+    ++ codes " place " ++ decimal d.place ++ codes " part " ++ part_text (part_of d.part) ++ codes " depth " ++ decimal d.depth

@@ -2,8 +2,9 @@
 
 ghost use Rattle.std.specs.Prelude.{◌≡◌, Some};
 ghost use Rattle.spec.specs.Denials.{number, text, part_text, arises, passed};
-ghost use Rattle.denials.specs.Denials.{word_of, part_of, denial_of};
+ghost use Rattle.denials.specs.Denials.{word_of, part_of, denial_of, shown};
 
+use std::error::Error;
 use std::fmt;
 
 #[derive(Clone, Copy, Debug, PartialEq, Eq)]
@@ -138,10 +139,26 @@ impl Denial {
         ensures { denial_of result ≡ passed (denial_of self) }
     {
         Denial {
-            word: self.word,
-            place: self.place,
-            part: self.part,
             depth: self.depth.saturating_add(1),
+            ..self
         }
     }
 }
+
+// The number of the word, the word, and what else the denial tells.
+impl fmt::Display for Denial {
+    ghost output = { λ d. Some (shown d) };
+
+    fn fmt<W: fmt::Write>(&self, f: &mut fmt::Formatter<W>) -> fmt::Result {
+        let Denial {
+            word,
+            place,
+            part,
+            depth,
+        } = *self;
+        let number = word.number();
+        write!(f, "{number} {word} place {place} part {part} depth {depth}")
+    }
+}
+
+impl Error for Denial {}
