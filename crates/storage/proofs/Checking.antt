@@ -78,7 +78,7 @@ set_alike [] (y ∷ ys) = refl
 set_alike (x ∷ xs) [] = refl
 set_alike (x ∷ xs) (y ∷ ys) = ap (λ b. nat_eq x y && b) (set_alike xs ys)
 
-signs_alike : (x y : ℤ) → same_signed x y ≡ int_eq x y
+pub signs_alike : (x y : ℤ) → same_signed x y ≡ int_eq x y
 signs_alike (pos m) (pos n) = grind (arith, nat_tests)
 signs_alike (pos m) (negsuc n) = refl
 signs_alike (negsuc m) (pos n) = refl

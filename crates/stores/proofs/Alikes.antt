@@ -1,38 +1,12 @@
 -- Whether lists are alike, tested at the regions that either lists.
-use Rattle.std.proofs.Common.{◌≡◌, ℕ, ◌+◌, ◌<◌, ◌≤◌, Bool, true, false, ◌&&◌, ◌⊎◌, List, [], ◌∷◌, ◌++◌, length, get_or, drop, pos, Decides, sym, refl, ap, ◌∙◌, subst, inl, inr, arith}
-use Rattle.std.proofs.lemmas.List.{at_drop_more, at_drop_all}
+use Rattle.std.proofs.Common.{◌≡◌, ℕ, Bool, true, false, ◌&&◌, ◌⊎◌, List, [], ◌∷◌, ◌++◌, pos, Decides, sym, refl, ap, ◌∙◌, subst, inl, inr, arith}
 use Rattle.std.proofs.lemmas.Bool.{and_parts, cases_eq}
 use Rattle.std.proofs.lemmas.Bool.Decides.{nat_tests}
 use Rattle.spec.specs.Lists.{all}
 use Rattle.spec.specs.Fields.{same_signed}
 use Rattle.spec.specs.Entries as entries
 use Rattle.spec.specs.Entries.{delta_at, regions, Alike, is_alike}
-use Rattle.storage.specs.declared.delta.Delta.{Delta}
-use Rattle.storage.specs.Deltas.{deltas_of}
-use Rattle.stores.proofs.Faults.{no_delta}
 use Rattle.stores.proofs.Signs.{signed_equal, signed_same}
-
--- ---- the tests, entry by entry
-
-abbrev pub same_delta : List Delta → List Delta → ℕ → Bool
-same_delta a b k = same_signed (delta_at (deltas_of a) k) (delta_at (deltas_of b) k)
-
--- the entries from i on decide
-abbrev pub Testing : (ℕ → Bool) → List Delta → ℕ → Type 0
-Testing p l i = all p (regions (deltas_of (drop i l))) ≡ all p (regions (deltas_of l))
-
-module _ (p : ℕ → Bool) (l : List Delta) (i : ℕ) (a : Testing p l i) where
-  next : i < length l → all p (regions (deltas_of (drop i l))) ≡ (p (get_or l i no_delta).region && all p (regions (deltas_of (drop (i + 1) l))))
-  next h = at_drop_more (λ x. all p (regions (deltas_of x))) l i no_delta h
-
-  pub tested_false : i < length l → p (get_or l i no_delta).region ≡ false → false ≡ all p (regions (deltas_of l))
-  tested_false h e = sym (sym a ∙ next h ∙ ap (λ t. t && all p (regions (deltas_of (drop (i + 1) l)))) e)
-
-  pub tested_more : i < length l → p (get_or l i no_delta).region ≡ true → Testing p l (i + 1)
-  tested_more h e = sym (sym a ∙ next h ∙ ap (λ t. t && all p (regions (deltas_of (drop (i + 1) l)))) e)
-
-  pub tested_all : length l ≤ i → true ≡ all p (regions (deltas_of l))
-  tested_all h = sym (at_drop_all (λ x. all p (regions (deltas_of x))) l i h) ∙ a
 
 pub all_append : {A : Type 0} (p : A → Bool) (xs ys : List A) → all p (xs ++ ys) ≡ (all p xs && all p ys)
 all_append p [] ys = refl

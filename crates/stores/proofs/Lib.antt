@@ -1,11 +1,10 @@
 pub mod Adding
 pub mod Alikes
-pub mod Asking
 pub mod Faults
 pub mod Held
-pub mod Keeping
 pub mod Meant
 pub mod Passing
+pub mod Reading
 pub mod Signs
 pub mod Staying
 pub mod Trimming

@@ -6,7 +6,6 @@ use Rattle.spec.specs.StoreModels.{Rows, flat, sharing, layered}
 use Rattle.stores.specs.declared.flat.FlatStore.{FlatStore}
 use Rattle.stores.specs.declared.sharing.SharingStore.{SharingStore}
 use Rattle.stores.specs.declared.trim.TrimLayer.{TrimLayer}
-use Rattle.stores.specs.Places.{rows_of}
 
 -- a store of type S that stands for one of type M has its meaning
 abbrev pub through : {S M : Type 0} → (S → M) → Store M → Store S
@@ -31,7 +30,7 @@ sharing_laws = record {
 }
 
 abbrev pub flat_rows : FlatStore → Rows
-flat_rows s = rows_of s.lists
+flat_rows s = s.lists
 
 abbrev pub flat_store : Store FlatStore
 flat_store = through flat_rows flat
@@ -40,7 +39,7 @@ pub flat_store_laws : Laws flat_store
 flat_store_laws = through_laws flat_rows flat_laws
 
 abbrev pub sharing_rows : SharingStore → Rows
-sharing_rows s = rows_of s.lists
+sharing_rows s = s.lists
 
 abbrev pub sharing_store : Store SharingStore
 sharing_store = through sharing_rows sharing

@@ -7,10 +7,10 @@ ghost use Rattle.storage.specs.Deltas.{deltas_of};
 ghost use Rattle.stores.specs.Answers.{told};
 ghost use Rattle.stores.specs.Meanings.{flat_rows, flat_store, flat_store_laws};
 
-use crate::lists::fault;
+use crate::lists::check;
 use crate::places::{Place, Places};
 use crate::store::VariationStore;
-use denials::denial::{Denial, Part, Word};
+use denials::denial::Denial;
 use storage::delta::Delta;
 
 #[derive(Drop)]
@@ -38,10 +38,8 @@ impl<'a> VariationStore for FlatStore<'a> {
         ensures added { Added flat_store self.old self.new (deltas_of list.now) (told result) }
         ensures same { flat_add (flat_rows self.old) (deltas_of list.now) ≡ (flat_rows self.new, told result) }
     {
-        match fault(list) {
-            Some(i) => Err(Denial::new(Word::BadDeltas, i, Part::Store)),
-            None => self.lists.take_place(list),
-        }
+        check(list)?;
+        self.lists.take_place(list)
     }
 
     fn delta(&self, id: u32, region: u16) -> Result<i16, Denial> {

@@ -13,39 +13,29 @@ use denials::denial::Denial;
 use storage::delta::Delta;
 
 // The model of the flat store meets the meaning of a store.
-pub fn flat_adds() -> u8
+pub fn flat_adds()
     ensures { FlatAdds }
-{
-    0
-}
+{}
 
 // The model of the sharing store meets the meaning of a store.
-pub fn sharing_adds() -> u8
+pub fn sharing_adds()
     ensures { SharingAdds }
-{
-    0
-}
+{}
 
 // Without its zero deltas a good list is good, and alike to itself as it was sent.
-pub fn trimming_keeps() -> u8
+pub fn trimming_keeps()
     ensures { TrimmingKeeps }
-{
-    0
-}
+{}
 
 // If the store below took the trimmed list, the layer took the list.
-pub fn trims<S: VariationStore>() -> u8
+pub fn trims<S: VariationStore>()
     ensures { Trims S.VariationStore.store }
-{
-    0
-}
+{}
 
 // Whatever lists are added one after the other, an id keeps its deltas.
-pub fn ids_stay<S: VariationStore>() -> u8
+pub fn ids_stay<S: VariationStore>()
     ensures { IdsStay S.VariationStore.store }
-{
-    0
-}
+{}
 
 // Adds a list and asks for its id: the delta that the list has, in every store.
 pub fn read_back<S: VariationStore>(
@@ -55,8 +45,6 @@ pub fn read_back<S: VariationStore>(
 ) -> Result<i16, Denial>
     ensures { MatchResult result (λ d. d ≡ delta_at (deltas_of list.now) region) (λ e. Added S.VariationStore.store store.old store.new (deltas_of list.now) (Err (denial_of e))) }
 {
-    match store.add(list) {
-        Ok(id) => store.delta(id, region),
-        Err(denial) => Err(denial),
-    }
+    let id = store.add(list)?;
+    store.delta(id, region)
 }

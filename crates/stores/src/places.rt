@@ -5,36 +5,37 @@ ghost use Rattle.std.specs.Prelude.{◌≡◌, ◌≤◌, min, [], map, length, 
 ghost use Rattle.spec.specs.Entries.{is_alike};
 ghost use Rattle.spec.specs.Lists.{place_of};
 ghost use Rattle.spec.specs.Stores.{Asked};
-ghost use Rattle.spec.specs.StoreModels.{take_place, flat};
+ghost use Rattle.spec.specs.StoreModels.{Within, take_place, flat};
 ghost use Rattle.storage.specs.Deltas.{deltas_of};
 ghost use Rattle.stores.specs.Answers.{told};
-ghost use Rattle.stores.specs.Places.{list_in, rows_of};
 
-use crate::lists::{MOST_ENTRIES, alike, delta_at};
+use crate::lists::{alike, delta_at};
 use denials::denial::{Denial, Part, Word};
+use std::marker::Model;
 use storage::delta::Delta;
+use storage::faults::MOST_ENTRIES;
 
 // The most places that are used.
 const MOST_PLACES: usize = 65_535;
 
-// Room for one list: the first `len` of its entries.
-#[derive(Clone, Copy)]
+// Room for one list: the first `len` of its entries. An array with a length, since a place is memory that the caller brings, and copies.
+#[derive(Clone, Copy, Debug)]
 pub struct Place {
     len: usize,
     entries: [Delta; MOST_ENTRIES],
+    ghost fits: { len ≤ 64 },
 }
 
 impl Place {
+    ghost use Rattle.stores.specs.Places.{list_in};
+
     // A place with nothing in it, to bring.
     pub fn new() -> Place
         ensures { list_in result ≡ [] }
     {
         Place {
             len: 0,
-            entries: [Delta {
-                region: 0,
-                delta: 0,
-            }; MOST_ENTRIES],
+            entries: [Delta::default(); MOST_ENTRIES],
         }
     }
 
@@ -42,13 +43,8 @@ impl Place {
         requires { length list.now ≤ 64 }
         ensures { list_in result ≡ deltas_of list.now }
     {
-        let mut entries = [Delta {
-            region: 0,
-            delta: 0,
-        }; MOST_ENTRIES];
-        for i in 0..list.len() {
-            entries[i] = list[i];
-        }
+        let mut entries = [Delta::default(); MOST_ENTRIES];
+        entries[..list.len()].copy_from_slice(list);
         Place {
             len: list.len(),
             entries,
@@ -58,69 +54,83 @@ impl Place {
     fn list(&self) -> &[Delta]
         ensures { deltas_of result.now ≡ list_in self.now }
     {
-        let n = self.len.min(MOST_ENTRIES);
-        &self.entries[0..n]
+        &self.entries[..self.len]
     }
 }
 
-// The first `used` places hold a list. What it counts past the places, or past the most, is not held.
+// The first `used` places hold a list.
 #[derive(Drop)]
 pub(crate) struct Places<'a> {
     places: &'a mut [Place],
     used: usize,
 }
 
+impl<'a> Model for Places<'a> {
+    ghost use Rattle.std.specs.Prelude.{◌-◌, ◌≤◌, map, length, take};
+    ghost use Rattle.spec.specs.StoreModels.{Rows};
+    ghost use Rattle.stores.specs.Places.{list_in};
+
+    ghost Value = { Rows };
+
+    ghost view = { λ s. record { rows = map list_in (take s.used s.places.now); free = length s.places.now - s.used } };
+
+    ghost invariant = { λ s. (s.used ≤ length s.places.now) × (length s.places.now ≤ 65535) };
+}
+
 impl<'a> Places<'a> {
+    ghost use Rattle.stores.specs.Places.{list_in};
+
     pub fn new(places: &'a mut [Place]) -> Places<'a>
-        ensures { rows_of result ≡ record { rows = []; free = min (length places.old) 65535 } }
+        ensures { result ≡ record { rows = []; free = min (length places.old) 65535 } }
     {
-        Places { places, used: 0 }
+        let most = places.len().min(MOST_PLACES);
+        Places {
+            places: &mut places[..most],
+            used: 0,
+        }
     }
 
     // The places that hold a list.
     fn held(&self) -> &[Place]
-        ensures lists { map list_in result.now ≡ (rows_of self.now).rows }
-        ensures len { length result.now ≡ length (rows_of self.now).rows }
-        ensures most { length result.now ≤ 65535 }
+        ensures lists { map list_in result.now ≡ self.now.rows }
+        ensures within { Within self.now }
     {
-        let n = self.used.min(self.places.len()).min(MOST_PLACES);
-        &self.places[0..n]
+        &self.places[..self.used]
     }
 
     pub fn is_full(&self) -> bool
-        ensures { result ≡ ((rows_of self.now).free == 0) }
+        ensures { result ≡ (self.now.free == 0) }
     {
-        self.used >= self.places.len() || self.used >= MOST_PLACES
+        self.used == self.places.len()
     }
 
     // The lowest id that holds a list alike to this one.
     pub fn find(&self, list: &[Delta]) -> Option<u32>
-        ensures { result ≡ place_of (is_alike (deltas_of list.now)) 0 (rows_of self.now).rows }
+        ensures found { result ≡ place_of (is_alike (deltas_of list.now)) 0 self.now.rows }
+        ensures within { Within self.now }
     {
-        for (k, place) in self.held().iter().enumerate() {
-            if alike(list, place.list()) {
-                return Some(k as u32);
-            }
-        }
-        None
+        self.held()
+            .iter()
+            .position(|place| alike(list, place.list()))
+            .map(|id| id as u32)
     }
 
     // The delta that an id has at a region.
     pub fn delta(&self, id: u32, region: u16) -> Result<i16, Denial>
-        ensures { Asked flat (rows_of self.now) id region (told result) }
+        ensures { Asked flat self.now id region (told result) }
     {
-        let held = self.held();
-        let k = id as usize;
-        if k >= held.len() {
-            return Err(Denial::new(Word::UnknownId, k, Part::Store));
+        let id = id as usize;
+        match self.held().get(id) {
+            Some(place) => Ok(delta_at(place.list(), region)),
+            None => Err(Denial::new(Word::UnknownId, id, Part::Store)),
         }
-        Ok(delta_at(held[k].list(), region))
     }
 
     // Puts the list into the next place.
     pub(crate) fn take_place(&mut self, list: &[Delta]) -> Result<u32, Denial>
         requires { length list.now ≤ 64 }
-        ensures { take_place (rows_of self.old) (deltas_of list.now) (rows_of self.old).free ≡ (rows_of self.new, told result) }
+        ensures taken { take_place self.old (deltas_of list.now) self.old.free ≡ (self.new, told result) }
+        ensures within { Within self.old }
     {
         if self.is_full() {
             return Err(Denial::new(Word::StoreFull, 0, Part::Store));

@@ -7,10 +7,10 @@ ghost use Rattle.storage.specs.Deltas.{deltas_of};
 ghost use Rattle.stores.specs.Answers.{told};
 ghost use Rattle.stores.specs.Meanings.{sharing_rows, sharing_store, sharing_store_laws};
 
-use crate::lists::fault;
+use crate::lists::check;
 use crate::places::{Place, Places};
 use crate::store::VariationStore;
-use denials::denial::{Denial, Part, Word};
+use denials::denial::Denial;
 use storage::delta::Delta;
 
 #[derive(Drop)]
@@ -38,9 +38,7 @@ impl<'a> VariationStore for SharingStore<'a> {
         ensures added { Added sharing_store self.old self.new (deltas_of list.now) (told result) }
         ensures same { sharing_add (sharing_rows self.old) (deltas_of list.now) ≡ (sharing_rows self.new, told result) }
     {
-        if let Some(i) = fault(list) {
-            return Err(Denial::new(Word::BadDeltas, i, Part::Store));
-        }
+        check(list)?;
         match self.lists.find(list) {
             Some(id) => Ok(id),
             None => self.lists.take_place(list),

@@ -6,10 +6,12 @@ ghost use Rattle.spec.specs.StoreModels.{trimmed};
 ghost use Rattle.storage.specs.Deltas.{deltas_of};
 ghost use Rattle.stores.specs.Meanings.{trim_layer, trim_layer_laws};
 
-use crate::lists::{MOST_ENTRIES, fault};
+use crate::lists::check;
 use crate::store::VariationStore;
-use denials::denial::{Denial, Part, Word};
+use arrayvec::ArrayVec;
+use denials::denial::Denial;
 use storage::delta::Delta;
+use storage::faults::MOST_ENTRIES;
 
 #[derive(Drop)]
 pub struct TrimLayer<S> {
@@ -26,20 +28,18 @@ impl<S: VariationStore> TrimLayer<S> {
     }
 }
 
-// Copies the deltas that are not 0 to the front of `room`, and answers how many there are.
-fn trim(list: &[Delta], room: &mut [Delta; MOST_ENTRIES]) -> usize
+// The deltas that are not 0.
+fn trim(list: &[Delta]) -> ArrayVec<Delta, MOST_ENTRIES>
     requires { length list.now ≤ 64 }
-    ensures within { result ≤ 64 }
-    ensures items { deltas_of (take result room.new) ≡ trimmed (deltas_of list.now) }
+    ensures { deltas_of result.items ≡ trimmed (deltas_of list.now) }
 {
-    let mut n = 0;
-    for d in list {
-        if d.delta != 0 {
-            room[n] = *d;
-            n += 1;
+    let mut kept = ArrayVec::new();
+    for entry in list {
+        if entry.delta != 0 {
+            kept.push(*entry);
         }
     }
-    n
+    kept
 }
 
 impl<S: VariationStore> VariationStore for TrimLayer<S> {
@@ -49,24 +49,12 @@ impl<S: VariationStore> VariationStore for TrimLayer<S> {
 
     // A list that offends is denied here, as it was sent.
     fn add(&mut self, list: &[Delta]) -> Result<u32, Denial> {
-        if let Some(i) = fault(list) {
-            return Err(Denial::new(Word::BadDeltas, i, Part::Store));
-        }
-        let mut room = [Delta {
-            region: 0,
-            delta: 0,
-        }; MOST_ENTRIES];
-        let n = trim(list, &mut room);
-        match self.below.add(&room[0..n]) {
-            Ok(id) => Ok(id),
-            Err(denial) => Err(denial.passed()),
-        }
+        check(list)?;
+        let kept = trim(list);
+        self.below.add(kept.as_slice()).map_err(Denial::passed)
     }
 
     fn delta(&self, id: u32, region: u16) -> Result<i16, Denial> {
-        match self.below.delta(id, region) {
-            Ok(delta) => Ok(delta),
-            Err(unknown) => Err(unknown.passed()),
-        }
+        self.below.delta(id, region).map_err(Denial::passed)
     }
 }

@@ -1,6 +1,6 @@
 use Rattle.std.proofs.Common.{◌∙◌}
 use Rattle.storage.specs.Deltas.{deltas_of}
-use Rattle.stores.proofs.Alikes.{both_tested, one_tested, is_alike_decides}
+use Rattle.stores.proofs.Alikes.{is_alike_decides, both_tested, one_tested}
 use Rattle.stores.proofs.lists.alike.Goals as goal
 
 pub returns-then-same_at : goal.returns-then-same_at

@@ -1,19 +1,17 @@
-use Rattle.std.proofs.Common.{w16, SFits, rules}
-use Rattle.stores.proofs.Alikes.{same_delta, tested_false, tested_more, tested_all}
-use Rattle.stores.proofs.Signs.{bits_apart, bits_same}
+use Rattle.std.proofs.Common.{◌∙◌, rules}
+use borrow.Author.Tests.{tests}
+use Rattle.std.specs.Ordering.{int_eq}
+use Rattle.std.proofs.lemmas.Iterator.{YieldsList-from_slice}
+use Rattle.std.proofs.lemmas.Iterator.Search.{all_from_yields_List}
+use Rattle.spec.specs.Entries.{delta_at}
+use Rattle.storage.specs.declared.delta.Delta.{Delta}
+use Rattle.storage.specs.Deltas.{deltas_of}
+use Rattle.stores.proofs.Reading.{all_same}
 use Rattle.stores.proofs.lists.same_at.Goals as goal
 
-pub returns-then-delta_at : goal.returns-then-delta_at
-returns-then-delta_at c =
-    tested_false (same_delta c.args.a.now c.args.b.now) c.args.places.now c.loop-d.d-index c.loop-d.invariant c.loop-d-test.true
-    (bits_apart c.delta_at.result c.delta_at-in-loop-d.result _ _ c.delta_at.ensures c.delta_at-in-loop-d.ensures c.if-delta_at.true)
-
-pub loop-d-preserved : goal.loop-d-preserved
-loop-d-preserved c =
-    let f : SFits w16 c.delta_at.result = search rules in
-    let g : SFits w16 c.delta_at-in-loop-d.result = search rules in
-    tested_more (same_delta c.args.a.now c.args.b.now) c.args.places.now c.loop-d.d-index c.loop-d.invariant c.loop-d-test.true
-    (bits_same c.delta_at.result c.delta_at-in-loop-d.result _ _ c.delta_at.ensures c.delta_at-in-loop-d.ensures f g c.if-delta_at.false)
-
 pub returns : goal.returns
-returns c = tested_all (same_delta c.args.a.now c.args.b.now) c.args.places.now c.loop-d.d-index c.loop-d.invariant c.loop-d-test.false
+returns c =
+    let a = deltas_of c.args.a.now in
+    let b = deltas_of c.args.b.now in
+    all_from_yields_List (λ (d : Delta). int_eq (delta_at a d.region) (delta_at b d.region)) _ _ c.all.result c.all.ensures.ran (YieldsList-from_slice c.args.places.now c.iter.ensures.rest) (λ x b q k. search (rules, tests))
+    ∙ all_same a b c.args.places.now

@@ -1,25 +1,23 @@
-use Rattle.std.proofs.Common.{Ok, ◌∙◌}
+use Rattle.std.proofs.Common.{◌≡◌, Ok, rules}
+use Rattle.spec.specs.StoreModels.{sharing_add}
 use Rattle.storage.specs.Deltas.{deltas_of}
 use Rattle.stores.specs.declared.sharing.SharingStore.{SharingStore}
 use Rattle.stores.specs.Answers.{told}
 use Rattle.stores.specs.Meanings.{sharing_rows}
-use Rattle.stores.proofs.Faults.{few_entries}
-use Rattle.stores.proofs.Meant.{shares, sharing_takes, sharing_does}
+use Rattle.stores.proofs.Meant.{sharing_does}
 use Rattle.stores.proofs.sharing.SharingStoreVariationStore.add.Goals as goal
 
-pub take_place-requires : goal.take_place-requires
-take_place-requires c = few_entries c.args.list.now c.in_default.ensures
-
-pub returns-in-Some-find : goal.returns-in-Some-find
-returns-in-Some-find c =
-    let l = deltas_of c.args.list.now in
+pub returns-in-Some-clause-added : goal.returns-in-Some-clause-added
+returns-in-Some-clause-added c =
     let s = c.args.self.now in
-    let e = shares (sharing_rows s) l c.in_default.ensures c.in-Some-find.id c.in-Some-find.ensures in
-    record { added = sharing_does s s l (Ok c.in-Some-find.id) e; same = e }
-
-pub returns-in-None : goal.returns-in-None
-returns-in-None c =
     let l = deltas_of c.args.list.now in
-    let after : SharingStore = record { lists = c.take_place.new.self } in
-    let e = sharing_takes (sharing_rows c.args.self.now) l c.in_default.ensures c.in-None.ensures ∙ c.take_place.ensures in
-    record { added = sharing_does c.args.self.now after l (told c.take_place.result) e; same = e }
+    let same : sharing_add (sharing_rows s) l ≡ (sharing_rows s, Ok c.in-Some.id) = search rules in
+    sharing_does s s l (Ok c.in-Some.id) c.find.ensures.within same
+
+pub returns-in-None-clause-added : goal.returns-in-None-clause-added
+returns-in-None-clause-added c =
+    let s = c.args.self.now in
+    let t : SharingStore = record { lists = c.take_place.new.self } in
+    let l = deltas_of c.args.list.now in
+    let same : sharing_add (sharing_rows s) l ≡ (sharing_rows t, told c.take_place.result) = search rules in
+    sharing_does s t l (told c.take_place.result) c.take_place.ensures.within same
