@@ -10,111 +10,77 @@ ghost use Rattle.laws.specs.Subtables.{SingleReads, GlyphPairsRead, ClassPairsRe
 
 // Fields and tables stand where their bytes do.
 
-pub fn fields_stand() -> u8
+pub fn fields_stand()
     ensures { FieldsStand }
-{
-    0
-}
+{}
 
-pub fn field_reads() -> u8
+pub fn field_reads()
     ensures { FieldReads }
-{
-    0
-}
+{}
 
-pub fn parts_stand() -> u8
+pub fn parts_stand()
     ensures { PartsStand }
-{
-    0
-}
+{}
 
-pub fn offsets_lead() -> u8
+pub fn offsets_lead()
     ensures { OffsetsLead }
-{
-    0
-}
+{}
 
 // Each part of a subtable reads back.
 
-pub fn device_reads() -> u8
+pub fn device_reads()
     ensures { DeviceReads }
-{
-    0
-}
+{}
 
-pub fn variation_index_reads() -> u8
+pub fn variation_index_reads()
     ensures { VariationIndexReads }
-{
-    0
-}
+{}
 
-pub fn coverage_reads() -> u8
+pub fn coverage_reads()
     ensures { CoverageReads }
-{
-    0
-}
+{}
 
-pub fn class_reads() -> u8
+pub fn class_reads()
     ensures { ClassReads }
-{
-    0
-}
+{}
 
-pub fn record_reads() -> u8
+pub fn record_reads()
     ensures { RecordReads }
-{
-    0
-}
+{}
 
-pub fn pair_set_reads() -> u8
+pub fn pair_set_reads()
     ensures { PairSetReads }
-{
-    0
-}
+{}
 
 // Subtables and lookups read as they are described.
 
-pub fn single_reads() -> u8
+pub fn single_reads()
     ensures { SingleReads }
-{
-    0
-}
+{}
 
-pub fn glyph_pairs_read() -> u8
+pub fn glyph_pairs_read()
     ensures { GlyphPairsRead }
-{
-    0
-}
+{}
 
-pub fn class_pairs_read() -> u8
+pub fn class_pairs_read()
     ensures { ClassPairsRead }
-{
-    0
-}
+{}
 
 // O is what a subtable is, A what it answers.
-pub fn lookup_reads<O, A>() -> u8
+pub fn lookup_reads<O, A>()
     ensures { LookupReads O A }
-{
-    0
-}
+{}
 
-pub fn single_lookup_reads() -> u8
+pub fn single_lookup_reads()
     ensures { SingleLookupReads }
-{
-    0
-}
+{}
 
-pub fn pair_lookup_reads() -> u8
+pub fn pair_lookup_reads()
     ensures { PairLookupReads }
-{
-    0
-}
+{}
 
 // The glyphs of a section fall into SinglePos subtables.
 
-pub fn together_is_equivalence() -> u8
+pub fn together_is_equivalence()
     ensures { TogetherIsEquivalence }
-{
-    0
-}
+{}

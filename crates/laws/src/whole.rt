@@ -13,37 +13,27 @@ pub trait VariationStore {
 }
 
 // Every run of calls makes a rule list whose entries are good and whose rules name what was entered.
-pub fn runs_make<S: VariationStore>() -> u8
+pub fn runs_make<S: VariationStore>()
     ensures single { RunsMake single_pos S.VariationStore.store }
     ensures pair { RunsMake pair_pos S.VariationStore.store }
-{
-    0
-}
+{}
 
 // The bytes of a single lookup answer every question as its rule list does.
-pub fn single_bytes_answer<S: VariationStore>() -> u8
+pub fn single_bytes_answer<S: VariationStore>()
     ensures { BytesAnswer single_pos S.VariationStore.store }
-{
-    0
-}
+{}
 
 // So do those of any run of calls up to an accepted build, and ids keep their deltas.
-pub fn single_runs_answer<S: VariationStore>() -> u8
+pub fn single_runs_answer<S: VariationStore>()
     ensures { RunsAnswer single_pos S.VariationStore.store }
-{
-    0
-}
+{}
 
 // The bytes of a pair lookup answer every question as its rule list does.
-pub fn pair_bytes_answer<S: VariationStore>() -> u8
+pub fn pair_bytes_answer<S: VariationStore>()
     ensures { BytesAnswer pair_pos S.VariationStore.store }
-{
-    0
-}
+{}
 
 // So do those of any run of calls up to an accepted build, and ids keep their deltas.
-pub fn pair_runs_answer<S: VariationStore>() -> u8
+pub fn pair_runs_answer<S: VariationStore>()
     ensures { RunsAnswer pair_pos S.VariationStore.store }
-{
-    0
-}
+{}

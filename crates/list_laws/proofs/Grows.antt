@@ -2,9 +2,9 @@
 use Rattle.std.proofs.Common.{◌≡◌, ℕ, Bool, true, false, ◌&&◌, ◌||◌, eqb, ltb, List, [], ◌∷◌, ◌++◌, sym, refl, ap, ◌∙◌, subst}
 use mathlib.Core.Bool.{or-false}
 use mathlib.Core.List.{reverse-append}
-use Rattle.spec.specs.Lists.{has, inserted, sorted, same_list, list_before}
+use Rattle.spec.specs.Lists.{has, inserted, replaced, sorted, same_list, list_before}
 use Rattle.spec.specs.Kinds.{Pair, pair_before, joins, grouped}
-use Rattle.list_laws.specs.Growing.{grown, replaced, SinglesGrow, PairsGrow, CellsGrow, GroupsGrow, LowestTells}
+use Rattle.list_laws.specs.Growing.{grown, SinglesGrow, PairsGrow, CellsGrow, GroupsGrow, LowestTells}
 use Rattle.list_laws.proofs.Orders.{Order, false_true}
 use Rattle.list_laws.proofs.Linear.{numbers_linear, lists_linear}
 use Rattle.list_laws.proofs.Members.{some_none}

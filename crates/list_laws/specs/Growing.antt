@@ -1,13 +1,8 @@
 -- How standing rules and groups grow by one more rule: what an insertion does to them.
-use Rattle.std.specs.Prelude.{◌≡◌, ℕ, Bool, true, false, ltb, List, [], ◌∷◌, ◌++◌, None, ◌==◌, nat_lt, slice_index}
-use Rattle.spec.specs.Lists.{inserted, has, same_list, list_before}
+use Rattle.std.specs.Prelude.{◌≡◌, ℕ, true, false, ltb, List, [], ◌∷◌, ◌++◌, None, ◌==◌, nat_lt, slice_index}
+use Rattle.spec.specs.Lists.{inserted, replaced, has, same_list, list_before}
 use Rattle.spec.specs.Entries.{set_fault}
 use Rattle.spec.specs.Kinds.{SingleRule, Pair, standing_singles, standing_pairs, pair_before, joins, groups, cell_before, standing_cells}
-
--- x in its place among ys, which stand in the order `before`; one that is equal in that order gives way
-abbrev pub replaced : {A : Type 0} → (A → A → Bool) → A → List A → List A
-replaced before x [] = x ∷ []
-replaced before x (y ∷ ys) = elim (before x y) [ true ↦ x ∷ y ∷ ys | false ↦ elim (before y x) [ true ↦ y ∷ replaced before x ys | false ↦ x ∷ ys ] ]
 
 -- of single rules the last for a glyph stands
 abbrev pub SinglesGrow : Type 0

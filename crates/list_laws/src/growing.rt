@@ -2,33 +2,23 @@
 
 ghost use Rattle.list_laws.specs.Growing.{SinglesGrow, PairsGrow, CellsGrow, GroupsGrow, LowestTells};
 
-pub fn singles_grow() -> u8
+pub fn singles_grow()
     ensures { SinglesGrow }
-{
-    0
-}
+{}
 
-pub fn pairs_grow() -> u8
+pub fn pairs_grow()
     ensures { PairsGrow }
-{
-    0
-}
+{}
 
-pub fn cells_grow() -> u8
+pub fn cells_grow()
     ensures { CellsGrow }
-{
-    0
-}
+{}
 
-pub fn groups_grow() -> u8
+pub fn groups_grow()
     ensures { GroupsGrow }
-{
-    0
-}
+{}
 
 // In a group the lowest glyph names a set, and set order is the order of lowest glyphs.
-pub fn lowest_tells() -> u8
+pub fn lowest_tells()
     ensures { LowestTells }
-{
-    0
-}
+{}

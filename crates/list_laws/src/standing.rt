@@ -3,43 +3,31 @@
 ghost use Rattle.list_laws.specs.Standing.{AllSinglesStand, AllPairsStandOnce, AllSetsApart, AllPairsStand, AllSinglesInOrder, AllPairsInOrder};
 
 // each glyph with a rule stands in one subtable, once
-pub fn singles_stand() -> u8
+pub fn singles_stand()
     ensures { AllSinglesStand }
-{
-    0
-}
+{}
 
 // each glyph pair with a rule stands in one pair set, once
-pub fn pairs_stand_once() -> u8
+pub fn pairs_stand_once()
     ensures { AllPairsStandOnce }
-{
-    0
-}
+{}
 
 // in class subtables different sets of one side share no glyph and no class number
-pub fn sets_apart() -> u8
+pub fn sets_apart()
     ensures { AllSetsApart }
-{
-    0
-}
+{}
 
 // each glyph pair once, and sets apart
-pub fn pairs_stand() -> u8
+pub fn pairs_stand()
     ensures { AllPairsStand }
-{
-    0
-}
+{}
 
 // single subtables by falling glyph count, then rising first glyph; glyphs rise
-pub fn singles_in_order() -> u8
+pub fn singles_in_order()
     ensures { AllSinglesInOrder }
-{
-    0
-}
+{}
 
 // glyph pair subtables by rising value formats, ahead of groups; pairs and cells rise
-pub fn pairs_in_order() -> u8
+pub fn pairs_in_order()
     ensures { AllPairsInOrder }
-{
-    0
-}
+{}

@@ -97,6 +97,11 @@ abbrev pub inserted : {A : Type 0} → (A → A → Bool) → A → List A → L
 inserted before x [] = x ∷ []
 inserted before x (y ∷ ys) = elim (before x y) [ true ↦ x ∷ y ∷ ys | false ↦ elim (before y x) [ true ↦ y ∷ inserted before x ys | false ↦ y ∷ ys ] ]
 
+-- the same; one that is equal in that order gives way to x
+abbrev pub replaced : {A : Type 0} → (A → A → Bool) → A → List A → List A
+replaced before x [] = x ∷ []
+replaced before x (y ∷ ys) = elim (before x y) [ true ↦ x ∷ y ∷ ys | false ↦ elim (before y x) [ true ↦ y ∷ replaced before x ys | false ↦ x ∷ ys ] ]
+
 -- in the order `before`; of those that are equal in it the last of the list, once
 abbrev pub sorted : {A : Type 0} → (A → A → Bool) → List A → List A
 sorted before [] = []

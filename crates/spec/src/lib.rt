@@ -10,162 +10,116 @@ ghost use Rattle.spec.specs.RunExamples.{WholeRuns};
 ghost use Rattle.spec.specs.BuildExamples.{Sections, SingleSubtables, GlyphPairs, ClassPairs};
 
 // the marked settings, in one table
-pub fn marked_settings() -> u8
+pub fn marked_settings()
     ensures { Settings }
-{
-    0
-}
+{}
 
 // three readings that are inviting and wrong
-pub fn inviting_mistakes() -> u8
+pub fn inviting_mistakes()
     ensures { InvitingMistakes }
-{
-    0
-}
+{}
 
 // which place of a list offends
-pub fn faults_of_entries() -> u8
+pub fn faults_of_entries()
     ensures { Faults }
-{
-    0
-}
+{}
 
 // when places run out
-pub fn full_tables() -> u8
+pub fn full_tables()
     ensures { Fills }
-{
-    0
-}
+{}
 
 // which absent entry is told
-pub fn unknown_entries() -> u8
+pub fn unknown_entries()
     ensures { Unknowns }
-{
-    0
-}
+{}
 
 // sections, flags, and which denial wins
-pub fn openings() -> u8
+pub fn openings()
     ensures { Openings }
-{
-    0
-}
+{}
 
 // sections stand in their order
-pub fn two_sections() -> u8
+pub fn two_sections()
     ensures { Sections }
-{
-    0
-}
+{}
 
 // which glyphs share a single subtable, and in which order subtables stand
-pub fn single_subtables() -> u8
+pub fn single_subtables()
     ensures { SingleSubtables }
-{
-    0
-}
+{}
 
 // glyph-pair subtables by value formats
-pub fn glyph_pairs() -> u8
+pub fn glyph_pairs()
     ensures { GlyphPairs }
-{
-    0
-}
+{}
 
 // class numbers, cells without a rule, unions of formats
-pub fn class_pairs() -> u8
+pub fn class_pairs()
     ensures { ClassPairs }
-{
-    0
-}
+{}
 
 // coverage at the bounds of its formats
-pub fn coverages() -> u8
+pub fn coverages()
     ensures { Coverages }
-{
-    0
-}
+{}
 
 // class definitions at the bounds of their formats
-pub fn class_defs() -> u8
+pub fn class_defs()
     ensures { ClassDefs }
-{
-    0
-}
+{}
 
 // a device, deltas and an empty delta list beside metrics
-pub fn devices_and_deltas() -> u8
+pub fn devices_and_deltas()
     ensures { Devices }
-{
-    0
-}
+{}
 
 // the order in which delta lists go to a store
-pub fn build_order() -> u8
+pub fn build_order()
     ensures { BuildOrder }
-{
-    0
-}
+{}
 
 // a mark filtering set; reading the table of one pair
-pub fn mark_sets() -> u8
+pub fn mark_sets()
     ensures { Marks }
-{
-    0
-}
+{}
 
 // too many, too far and too short
-pub fn ceilings() -> u8
+pub fn ceilings()
     ensures { Ceilings }
-{
-    0
-}
+{}
 
 // faults of a lookup
-pub fn lookup_faults() -> u8
+pub fn lookup_faults()
     ensures { LookupFaults }
-{
-    0
-}
+{}
 
 // faults of single subtables
-pub fn single_faults() -> u8
+pub fn single_faults()
     ensures { SingleFaults }
-{
-    0
-}
+{}
 
 // faults of devices, and their widths
-pub fn device_faults() -> u8
+pub fn device_faults()
     ensures { DeviceFaults }
-{
-    0
-}
+{}
 
 // faults of glyph-pair subtables
-pub fn glyph_pair_faults() -> u8
+pub fn glyph_pair_faults()
     ensures { GlyphPairFaults }
-{
-    0
-}
+{}
 
 // faults of class subtables
-pub fn class_pair_faults() -> u8
+pub fn class_pair_faults()
     ensures { ClassPairFaults }
-{
-    0
-}
+{}
 
 // what the store models answer
-pub fn store_adds() -> u8
+pub fn store_adds()
     ensures { StoreAdds }
-{
-    0
-}
+{}
 
 // an accepted build ends a run; a denied one does not
-pub fn whole_runs() -> u8
+pub fn whole_runs()
     ensures { WholeRuns }
-{
-    0
-}
+{}
