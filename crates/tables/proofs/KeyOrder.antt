@@ -1,9 +1,9 @@
 -- Pairs in the order of their keys: where a key stands, and what that says of its value and of the keys around it.
-use Rattle.std.proofs.Common.{◌≡◌, ℕ, zero, suc, ◌+◌, ◌<◌, ◌≤◌, Bool, true, false, ◌&&◌, List, [], ◌∷◌, ◌++◌, length, get_or, take, drop, Some, None, Ordering, Less, Equal, Greater, sym, refl, ap, ◌∙◌, true≢false, arith, below_more}
+use Rattle.std.proofs.Common.{◌≡◌, ℕ, zero, suc, ◌<◌, ◌≤◌, Bool, true, false, ◌&&◌, List, [], ◌∷◌, ◌++◌, length, get_or, take, drop, set, Some, None, Ordering, Less, Equal, Greater, sym, refl, ap, ◌∙◌, true≢false, arith}
+use Rattle.std.specs.Cmp.{IsTotalOrder, alike_right}
 use Rattle.std.specs.Ordering.{is_eq, is_lt, ordering_reverse}
-use Rattle.std.proofs.lemmas.List.{get_or_read}
 use Rattle.spec.specs.Lists.{first, map_some}
-use Rattle.tables.specs.Tables.{all_after, rises, lookup, at_or_above, with_value, Past}
+use Rattle.tables.specs.Tables.{all_after, rises, lookup, at_or_above, Past, Ahead}
 use Rattle.list_laws.proofs.Linear.{both}
 
 is_less : (o : Ordering) → is_lt o ≡ true → o ≡ Less
@@ -32,9 +32,8 @@ module _ {K V : Type 0} (c : K → K → Ordering) where
   pub tail_past : (p : K × V) (ps : List (K × V)) (k : K) (i : ℕ) → Past c (p ∷ ps) k (suc i) → Past c ps k i
   tail_past p ps k i h j d l = h (suc j) d (omega arith)
 
-  -- ---- a row that was read
-  pub read_at : (ps : List (K × V)) (k : K) (m : ℕ) (row : K × V) (o : Ordering) → m < length ps → row ≡ get_or ps m row → o ≡ c k row.0 → (d : K × V) → c k (get_or ps m d).0 ≡ o
-  read_at ps k m row o l r e d = ap (λ y. c k y.0) (sym (get_or_read ps m row l r d)) ∙ sym e
+  pub tail_ahead : (p : K × V) (ps : List (K × V)) (k : K) (i : ℕ) → Ahead c (p ∷ ps) k (suc i) → Ahead c ps k i
+  tail_ahead p ps k i h j d l m = h (suc j) d (omega arith) (omega arith)
 
   -- ---- the value
   pub lookup_at : (ps : List (K × V)) (k : K) (i : ℕ) (d : K × V) → i < length ps → Past c ps k i → c k (get_or ps i d).0 ≡ Equal → lookup c ps k ≡ Some (get_or ps i d).1
@@ -43,41 +42,29 @@ module _ {K V : Type 0} (c : K → K → Ordering) where
   lookup_at (p ∷ ps) k (suc i) d l h e =
       ap (map_some (λ q. q.1)) (first_skip (λ q. is_eq (c k q.0)) p ps (ap is_eq (h 0 p (omega arith)))) ∙ lookup_at ps k i d (omega arith) (tail_past p ps k i h) e
 
-  none_after : (k : K) (ps : List (K × V)) → all_after c k ps ≡ true → lookup c ps k ≡ None
-  none_after k [] h = refl
-  none_after k (p ∷ ps) h =
-      let b = both (is_lt (c k p.0)) _ h in
-      ap (map_some (λ q. q.1)) (first_skip (λ q. is_eq (c k q.0)) p ps (ap is_eq (is_less _ b.0))) ∙ none_after k ps b.1
+  pub lookup_none : (ps : List (K × V)) (k : K) (i : ℕ) → Past c ps k i → Ahead c ps k i → lookup c ps k ≡ None
+  lookup_none [] k i h e = refl
+  lookup_none (p ∷ ps) k zero h e =
+      ap (map_some (λ q. q.1)) (first_skip (λ q. is_eq (c k q.0)) p ps (ap is_eq (e 0 p (omega arith) (omega arith))))
+      ∙ lookup_none ps k zero (λ j d l. absurd (let z : ⊥ = omega arith in z)) (λ j d l m. e (suc j) d (omega arith) (omega arith))
+  lookup_none (p ∷ ps) k (suc i) h e =
+      ap (map_some (λ q. q.1)) (first_skip (λ q. is_eq (c k q.0)) p ps (ap is_eq (h 0 p (omega arith))))
+      ∙ lookup_none ps k i (tail_past p ps k i h) (tail_ahead p ps k i e)
 
   -- ---- under the laws
-  module _ (flip : (x y : K) → c x y ≡ ordering_reverse (c y x)) (trans : (x y z : K) → c x y ≡ Less → c y z ≡ Less → c x z ≡ Less) where
-    pub past_more : (ps : List (K × V)) (k : K) (m : ℕ) (row : K × V) → rises c ps ≡ true → m < length ps → row ≡ get_or ps m row → Greater ≡ c k row.0 → Past c ps k (m + 1)
-    past_more ps k m row h l r e =
-        let here : (d : K × V) → row ≡ get_or ps m d = get_or_read ps m row l r in
-        λ j d t. below_more (λ n. (d : K × V) → c k (get_or ps n d).0 ≡ Greater) m
-        (λ n u d. flip _ _ ∙ ap ordering_reverse (trans _ _ _ (rises_less ps h n m d u l) (flip _ _ ∙ ap (λ q. ordering_reverse (c k q.0)) (sym (here d)) ∙ ap ordering_reverse (sym e))))
-        (λ d. ap (λ y. c k y.0) (sym (here d)) ∙ sym e) j t d
-
-    pub past_same : (exact : (x y : K) → c x y ≡ Equal → x ≡ y) (ps : List (K × V)) (k : K) (m : ℕ) (row : K × V) → rises c ps ≡ true → m < length ps → row ≡ get_or ps m row → Equal ≡ c k row.0 → Past c ps k m
-    past_same exact ps k m row h l r e = λ j d t.
-        let same : k ≡ (get_or ps m d).0 = exact k row.0 (sym e) ∙ ap (λ y. y.0) (get_or_read ps m row l r d) in
-        ap (λ x. c x (get_or ps j d).0) same ∙ flip _ _ ∙ ap ordering_reverse (rises_less ps h j m d t l)
+  module _ (o : IsTotalOrder c) where
+    -- a key that stands at m is past those before it
+    pub past_same : (ps : List (K × V)) (k : K) (m : ℕ) → rises c ps ≡ true → m < length ps → ((d : K × V) → c k (get_or ps m d).0 ≡ Equal) → Past c ps k m
+    past_same ps k m h l e j d t = o.congr _ _ _ (e d) ∙ o.antisymm _ _ ∙ ap ordering_reverse (rises_less ps h j m d t l)
 
     after_trans : (x y : K) → c x y ≡ Less → (ps : List (K × V)) → all_after c y ps ≡ true → all_after c x ps ≡ true
     after_trans x y l [] h = refl
     after_trans x y l (p ∷ ps) h =
         let b = both (is_lt (c y p.0)) (all_after c y ps) h in
-        (λ i. is_lt (trans x y p.0 l (is_less _ b.0) i) && after_trans x y l ps b.1 i)
+        (λ i. is_lt (o.trans x y p.0 l (is_less _ b.0) i) && after_trans x y l ps b.1 i)
 
     after_first : (k : K) (p : K × V) (ps : List (K × V)) → rises c (p ∷ ps) ≡ true → c k p.0 ≡ Less → all_after c k (p ∷ ps) ≡ true
     after_first k p ps h e = (λ i. is_lt (e i) && after_trans k p.0 e ps (both (all_after c p.0 ps) (rises c ps) h).0 i)
-
-    pub lookup_none : (ps : List (K × V)) (k : K) (i : ℕ) → rises c ps ≡ true → i ≤ length ps → Past c ps k i → ((d : K × V) → i < length ps → c k (get_or ps i d).0 ≡ Less) → lookup c ps k ≡ None
-    lookup_none [] k i r l h e = refl
-    lookup_none (p ∷ ps) k zero r l h e = none_after k (p ∷ ps) (after_first k p ps r (e p (omega arith)))
-    lookup_none (p ∷ ps) k (suc i) r l h e =
-        ap (map_some (λ q. q.1)) (first_skip (λ q. is_eq (c k q.0)) p ps (ap is_eq (h 0 p (omega arith))))
-        ∙ lookup_none ps k i (both (all_after c p.0 ps) (rises c ps) r).1 (omega arith) (tail_past p ps k i h) (λ d m. e d (omega arith))
 
     -- ---- a pair comes to its place
     after_put : (q k : K) (v : V) → c q k ≡ Less → (ps : List (K × V)) (i : ℕ) → all_after c q ps ≡ true → all_after c q (take i ps ++ (k, v) ∷ drop i ps) ≡ true
@@ -92,7 +79,7 @@ module _ {K V : Type 0} (c : K → K → Ordering) where
     rises_put (p ∷ ps) k v zero r l h e = (λ t. after_first k p ps r (e p (omega arith)) t && r t)
     rises_put (p ∷ ps) k v (suc i) r l h e =
         let b = both (all_after c p.0 ps) (rises c ps) r in
-        let under : c p.0 k ≡ Less = flip p.0 k ∙ ap ordering_reverse (h 0 p (omega arith)) in
+        let under : c p.0 k ≡ Less = o.antisymm p.0 k ∙ ap ordering_reverse (h 0 p (omega arith)) in
         (λ t. after_put p.0 k v under ps i b.0 t && rises_put ps k v i b.1 (omega arith) (tail_past p ps k i h) (λ d m. e d (omega arith)) t)
 
     -- ---- the first key at or above
@@ -101,7 +88,7 @@ module _ {K V : Type 0} (c : K → K → Ordering) where
     above_at [] k (suc i) l h e = absurd (let z : ⊥ = omega arith in z)
     above_at (p ∷ ps) k zero l h e = sym (ap (λ b. elim b [ true ↦ suc (at_or_above c ps k) | false ↦ 0 ]) (e p (omega arith)))
     above_at (p ∷ ps) k (suc i) l h e =
-        let under : c p.0 k ≡ Less = flip p.0 k ∙ ap ordering_reverse (h 0 p (omega arith)) in
+        let under : c p.0 k ≡ Less = o.antisymm p.0 k ∙ ap ordering_reverse (h 0 p (omega arith)) in
         ap suc (above_at ps k i (omega arith) (tail_past p ps k i h) (λ d m. e d (omega arith)))
         ∙ sym (ap (λ b. elim b [ true ↦ suc (at_or_above c ps k) | false ↦ 0 ]) (ap is_lt under))
 
@@ -109,15 +96,20 @@ module _ {K V : Type 0} (c : K → K → Ordering) where
     pub apart : (ps : List (K × V)) → rises c ps ≡ true → (i j : ℕ) (d : K × V) → i < j → j < length ps → (get_or ps i d).0 ≡ (get_or ps j d).0 → ⊥
     apart ps h i j d l m e =
         let less : c (get_or ps i d).0 (get_or ps i d).0 ≡ Less = ap (c (get_or ps i d).0) e ∙ rises_less ps h i j d l m in
-        true≢false (sym (ap is_lt less) ∙ ap is_lt (flip (get_or ps i d).0 (get_or ps i d).0 ∙ ap ordering_reverse less))
+        true≢false (sym (ap is_lt less) ∙ ap is_lt (o.antisymm (get_or ps i d).0 (get_or ps i d).0 ∙ ap ordering_reverse less))
 
-  -- ---- another value
-  after_value : (k : K) (ps : List (K × V)) (i : ℕ) (v : V) → all_after c k (with_value ps i v) ≡ all_after c k ps
-  after_value k [] i v = refl
-  after_value k (p ∷ ps) zero v = refl
-  after_value k (p ∷ ps) (suc i) v = ap (λ b. is_lt (c k p.0) && b) (after_value k ps i v)
+    -- ---- another pair with that key
+    module _ (k : K) (v : V) where
+      after_alike : (q : K) → c k q ≡ Equal → (ps : List (K × V)) → all_after c k ps ≡ all_after c q ps
+      after_alike q e [] = refl
+      after_alike q e (p ∷ ps) = (λ t. is_lt (o.congr k q p.0 e t) && after_alike q e ps t)
 
-  pub rises_value : (ps : List (K × V)) (i : ℕ) (v : V) → rises c (with_value ps i v) ≡ rises c ps
-  rises_value [] i v = refl
-  rises_value (p ∷ ps) zero v = refl
-  rises_value (p ∷ ps) (suc i) v = (λ t. after_value p.0 ps i v t && rises_value ps i v t)
+      after_set : (q : K) (ps : List (K × V)) (i : ℕ) → ((d : K × V) → c k (get_or ps i d).0 ≡ Equal) → all_after c q (set ps i (k, v)) ≡ all_after c q ps
+      after_set q [] i e = refl
+      after_set q (p ∷ ps) zero e = ap (λ r. is_lt r && all_after c q ps) (alike_right o k p.0 q (e p))
+      after_set q (p ∷ ps) (suc i) e = ap (λ b. is_lt (c q p.0) && b) (after_set q ps i e)
+
+      pub rises_set : (ps : List (K × V)) (i : ℕ) → ((d : K × V) → c k (get_or ps i d).0 ≡ Equal) → rises c (set ps i (k, v)) ≡ rises c ps
+      rises_set [] i e = refl
+      rises_set (p ∷ ps) zero e = ap (λ b. b && rises c ps) (after_alike p.0 (e p) ps)
+      rises_set (p ∷ ps) (suc i) e = (λ t. after_set p.0 ps i e t && rises_set ps i e t)

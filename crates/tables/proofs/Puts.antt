@@ -1,12 +1,13 @@
 -- A pair that comes to its place among pairs in key order, or finds its key there.
-use Rattle.std.proofs.Common.{◌≡◌, ℕ, zero, suc, ◌<◌, ◌≤◌, Bool, true, false, List, [], ◌∷◌, ◌++◌, length, get_or, take, drop, set, Ok, Err, Ordering, Less, Equal, Greater, sym, refl, ap, ◌∙◌, arith}
+use Rattle.std.proofs.Common.{◌≡◌, ℕ, zero, suc, Bool, true, false, List, [], ◌∷◌, ◌++◌, get_or, take, drop, set, Some, None, Ok, Err, Ordering, Less, Equal, Greater, sym, refl, ap, ◌∙◌, arith}
+use Rattle.std.specs.Cmp.{IsTotalOrder}
 use Rattle.std.specs.Ordering.{is_lt, ordering_reverse}
 use Rattle.std.proofs.lemmas.List.{set-get_or}
-use Rattle.spec.specs.Lists.{inserted}
-use Rattle.tables.specs.Tables.{before, inserted_last, with_value, Placed}
-use Rattle.tables.proofs.KeyOrder.{tail_past}
+use Rattle.spec.specs.Lists.{at, inserted, replaced}
+use Rattle.tables.specs.Tables.{before, with_value, Placed}
+use Rattle.tables.proofs.KeyOrder.{tail_past, tail_ahead}
 
--- `inserted` and `inserted_last` in one: `pick` says which of two that are equal stays
+-- `inserted` and `replaced` in one: `pick` says which of two that are equal stays
 abbrev put : {A : Type 0} → (A → A → A) → (A → A → Bool) → A → List A → List A
 put pick less x [] = x ∷ []
 put pick less x (y ∷ ys) = elim (less x y) [ true ↦ x ∷ y ∷ ys | false ↦ elim (less y x) [ true ↦ y ∷ put pick less x ys | false ↦ pick y x ∷ ys ] ]
@@ -16,33 +17,28 @@ module _ {A : Type 0} (less : A → A → Bool) (x : A) where
   first_put [] = refl
   first_put (y ∷ ys) = ap (λ zs. elim (less x y) [ true ↦ x ∷ y ∷ ys | false ↦ elim (less y x) [ true ↦ y ∷ zs | false ↦ y ∷ ys ] ]) (first_put ys)
 
-  last_put : (ys : List A) → put (λ old new. new) less x ys ≡ inserted_last less x ys
+  last_put : (ys : List A) → put (λ old new. new) less x ys ≡ replaced less x ys
   last_put [] = refl
   last_put (y ∷ ys) = ap (λ zs. elim (less x y) [ true ↦ x ∷ y ∷ ys | false ↦ elim (less y x) [ true ↦ y ∷ zs | false ↦ x ∷ ys ] ]) (last_put ys)
 
 module _ {K V : Type 0} where
-  pub value_past : (ps : List (K × V)) (i : ℕ) (v : V) → length ps ≤ i → ps ≡ with_value ps i v
-  value_past [] i v h = refl
-  value_past (p ∷ ps) zero v h = absurd (let z : ⊥ = omega arith in z)
-  value_past (p ∷ ps) (suc i) v h = ap (λ qs. p ∷ qs) (value_past ps i v (omega arith))
+  pub value_at : (ps : List (K × V)) (i : ℕ) (p : K × V) (v : V) → Some p ≡ at ps i → set ps i (p.0, v) ≡ with_value ps i v
+  value_at [] i q v e = refl
+  value_at (p ∷ ps) zero q v e = let k : q ≡ p = cc in ap (λ l. (l.0, v) ∷ ps) k
+  value_at (p ∷ ps) (suc i) q v e = ap (λ qs. p ∷ qs) (value_at ps i q v e)
 
-  pub value_set : (ps : List (K × V)) (i : ℕ) (k : K) (v : V) (d : K × V) → i < length ps → k ≡ (get_or ps i d).0 → set ps i (k, v) ≡ with_value ps i v
-  value_set [] i k v d l e = refl
-  value_set (p ∷ ps) zero k v d l e = ap (λ q. (q, v) ∷ ps) e
-  value_set (p ∷ ps) (suc i) k v d l e = ap (λ qs. p ∷ qs) (value_set ps i k v d (omega arith) e)
+  pub value_nowhere : (ps : List (K × V)) (i : ℕ) (v : V) → None ≡ at ps i → ps ≡ with_value ps i v
+  value_nowhere [] i v e = refl
+  value_nowhere (p ∷ ps) zero v e = absurd (let z : ⊥ = cc in z)
+  value_nowhere (p ∷ ps) (suc i) v e = ap (λ qs. p ∷ qs) (value_nowhere ps i v e)
 
-  pub length_value : (ps : List (K × V)) (i : ℕ) (v : V) → length (with_value ps i v) ≡ length ps
-  length_value [] i v = refl
-  length_value (p ∷ ps) zero v = refl
-  length_value (p ∷ ps) (suc i) v = ap suc (length_value ps i v)
-
-module _ {K V : Type 0} (c : K → K → Ordering) (flip : (x y : K) → c x y ≡ ordering_reverse (c y x)) (k : K) (v : V) where
+module _ {K V : Type 0} {c : K → K → Ordering} (o : IsTotalOrder c) (k : K) (v : V) where
   module _ (pick : K × V → K × V → K × V) (p : K × V) (ps : List (K × V)) where
     by : Bool → Bool → List (K × V)
     by a b = elim a [ true ↦ (k, v) ∷ p ∷ ps | false ↦ elim b [ true ↦ p ∷ put pick (before c) (k, v) ps | false ↦ pick p (k, v) ∷ ps ] ]
 
-    under : (o : Ordering) → c k p.0 ≡ o → is_lt (c p.0 k) ≡ is_lt (ordering_reverse o)
-    under o e = ap is_lt (flip p.0 k ∙ ap ordering_reverse e)
+    under : (r : Ordering) → c k p.0 ≡ r → is_lt (c p.0 k) ≡ is_lt (ordering_reverse r)
+    under r e = ap is_lt (o.antisymm p.0 k ∙ ap ordering_reverse e)
 
     put_go : c k p.0 ≡ Greater → put pick (before c) (k, v) (p ∷ ps) ≡ p ∷ put pick (before c) (k, v) ps
     unfolding by
@@ -60,9 +56,9 @@ module _ {K V : Type 0} (c : K → K → Ordering) (flip : (x y : K) → c x y �
   put_new : (pick : K × V → K × V → K × V) (ps : List (K × V)) (i : ℕ) → Placed c ps k (Err i) → put pick (before c) (k, v) ps ≡ take i ps ++ (k, v) ∷ drop i ps
   put_new pick [] zero h = refl
   put_new pick [] (suc i) h = absurd (let z : ⊥ = omega (arith, h.0) in z)
-  put_new pick (p ∷ ps) zero h = put_here pick p ps (h.2 p (omega arith))
+  put_new pick (p ∷ ps) zero h = put_here pick p ps (h.2 0 p (omega arith) (omega arith))
   put_new pick (p ∷ ps) (suc i) h =
-      put_go pick p ps (h.1 0 p (omega arith)) ∙ ap (λ qs. p ∷ qs) (put_new pick ps i (omega (arith, h.0), tail_past c p ps k i h.1, λ d m. h.2 d (omega arith)))
+      put_go pick p ps (h.1 0 p (omega arith)) ∙ ap (λ qs. p ∷ qs) (put_new pick ps i (omega (arith, h.0), tail_past c p ps k i h.1, tail_ahead c p ps k i h.2))
 
   -- an old key
   put_same : (pick : K × V → K × V → K × V) (ps : List (K × V)) (i : ℕ) (d : K × V) → Placed c ps k (Ok i) → put pick (before c) (k, v) ps ≡ set ps i (pick (get_or ps i d) (k, v))
@@ -74,12 +70,11 @@ module _ {K V : Type 0} (c : K → K → Ordering) (flip : (x y : K) → c x y �
   pub first_new : (ps : List (K × V)) (i : ℕ) → Placed c ps k (Err i) → take i ps ++ (k, v) ∷ drop i ps ≡ inserted (before c) (k, v) ps
   first_new ps i h = sym (put_new (λ old new. old) ps i h) ∙ first_put (before c) (k, v) ps
 
-  pub last_new : (ps : List (K × V)) (i : ℕ) → Placed c ps k (Err i) → take i ps ++ (k, v) ∷ drop i ps ≡ inserted_last (before c) (k, v) ps
+  pub last_new : (ps : List (K × V)) (i : ℕ) → Placed c ps k (Err i) → take i ps ++ (k, v) ∷ drop i ps ≡ replaced (before c) (k, v) ps
   last_new ps i h = sym (put_new (λ old new. new) ps i h) ∙ last_put (before c) (k, v) ps
 
   pub first_old : (ps : List (K × V)) (i : ℕ) → Placed c ps k (Ok i) → ps ≡ inserted (before c) (k, v) ps
   first_old ps i h = sym (set-get_or ps i (k, v)) ∙ sym (put_same (λ old new. old) ps i (k, v) h) ∙ first_put (before c) (k, v) ps
 
-  pub last_old : ((x y : K) → c x y ≡ Equal → x ≡ y) → (ps : List (K × V)) (i : ℕ) → Placed c ps k (Ok i) → with_value ps i v ≡ inserted_last (before c) (k, v) ps
-  last_old exact ps i h =
-      sym (value_set ps i k v (k, v) h.0 (exact k _ (h.2 (k, v)))) ∙ sym (put_same (λ old new. new) ps i (k, v) h) ∙ last_put (before c) (k, v) ps
+  pub last_old : (ps : List (K × V)) (i : ℕ) → Placed c ps k (Ok i) → set ps i (k, v) ≡ replaced (before c) (k, v) ps
+  last_old ps i h = sym (put_same (λ old new. new) ps i (k, v) h) ∙ last_put (before c) (k, v) ps

@@ -2,7 +2,7 @@
 use Rattle.std.proofs.Common.{◌≡◌, ℕ, ◌+◌, ◌-◌, ◌<◌, ◌≤◌, min, ◌≢◌, ◌⊎◌, List, length, get_or, take, set, sym, ap, ◌∙◌, inl, inr, arith, length-set, length-take}
 use Rattle.std.specs.List.{insert}
 use Rattle.std.proofs.lemmas.List.Edits.{length-insert, get_or-insert_below, get_or-insert_at, get_or-insert_above}
-use Rattle.std.proofs.lemmas.List.{get_or-set_same, get_or-set_other, get_or-take, same_lists, get_or_default}
+use Rattle.std.proofs.lemmas.List.{get_or-set_same, get_or-set_other, get_or-take, same_lists}
 use Rattle.std.proofs.lemmas.Bool.{cases_order}
 
 module _ {A : Type 0} where
@@ -41,20 +41,3 @@ module _ {A : Type 0} where
 
       at_each : (k : ℕ) (d : A) → k < length (take (n + 1) (set rows' i x)) → get_or (take (n + 1) (set rows' i x)) k d ≡ get_or (insert (take n rows) i x) k d
       at_each k d t = let s : k < n + 1 = omega (arith, cut) in get_or-take (n + 1) (set rows' i x) k d s ∙ by_place k d s (cases_order k i)
-
-  -- one row moves up
-  pub moved_below : (rows rows' : List A) (j : ℕ) (row : A) → ((k : ℕ) (d : A) → k ≤ j → get_or rows' k d ≡ get_or rows k d) → (k : ℕ) (d : A) → k ≤ j - 1 → 0 < j → get_or (set rows' j row) k d ≡ get_or rows k d
-  moved_below rows rows' j row h k d l p = let ne : k ≢ j = omega arith in get_or-set_other rows' j k row d ne ∙ h k d (omega arith)
-
-  pub moved_above : (rows rows' : List A) (n j : ℕ) (e : A) → 0 < j → j < length rows'
-      → ((k : ℕ) (d : A) → k ≤ j → get_or rows' k d ≡ get_or rows k d)
-      → ((k : ℕ) (d : A) → j < k → k ≤ n → get_or rows' k d ≡ get_or rows (k - 1) d)
-      → (k : ℕ) (d : A) → j - 1 < k → k ≤ n → get_or (set rows' j (get_or rows' (j - 1) e)) k d ≡ get_or rows (k - 1) d
-  moved_above rows rows' n j e p w below above k d t u = by_place (cases_order k j)
-    where
-      by_place : (k ≡ j) ⊎ ((k < j) ⊎ (j < k)) → get_or (set rows' j (get_or rows' (j - 1) e)) k d ≡ get_or rows (k - 1) d
-      by_place (inl q) =
-          let v : j - 1 < length rows' = omega arith in
-          ap (λ m. get_or (set rows' j (get_or rows' (j - 1) e)) m d) q ∙ get_or-set_same rows' j _ d w ∙ get_or_default rows' (j - 1) e d v ∙ below (j - 1) d (omega arith) ∙ ap (λ m. get_or rows (m - 1) d) (sym q)
-      by_place (inr (inl q)) = absurd (let z : ⊥ = omega arith in z)
-      by_place (inr (inr q)) = let ne : k ≢ j = omega arith in get_or-set_other rows' j k _ d ne ∙ above k d q u

@@ -6,7 +6,6 @@ use Rattle.std.specs.Ordering.{is_eq, is_lt}
 use Rattle.spec.specs.Denials.{Word, Part, Denial, Answer, arises, when}
 use Rattle.spec.specs.Lists.{first, map_some}
 use Rattle.denials.specs.declared.denial.Denial as code_denial
-use Rattle.tables.specs.declared.table.OrderedTable.{OrderedTable}
 use Rattle.denials.specs.Answers.{call_answer, denied_or, left_by}
 
 -- every number is below m
@@ -19,10 +18,10 @@ abbrev pub picked : {A : Type 0} → List A → List ℕ → List A
 picked rows [] = []
 picked rows (n ∷ ns) = take 1 (drop n rows) ++ picked rows ns
 
--- x in its place among ys, which stand in the order `before`; one that is equal in that order makes way
-abbrev pub inserted_last : {A : Type 0} → (A → A → Bool) → A → List A → List A
-inserted_last before x [] = x ∷ []
-inserted_last before x (y ∷ ys) = elim (before x y) [ true ↦ x ∷ y ∷ ys | false ↦ elim (before y x) [ true ↦ y ∷ inserted_last before x ys | false ↦ x ∷ ys ] ]
+-- what a table holds: its pairs in the order of their keys, and how many there can be
+pub record Contents (K V : Type 0) : Type 0 where
+  pub pairs : List (K × V)
+  pub most : ℕ
 
 module _ {K V : Type 0} where
   -- the pairs with another value at a place
@@ -31,31 +30,19 @@ module _ {K V : Type 0} where
   with_value (p ∷ ps) zero v = (p.0, v) ∷ ps
   with_value (p ∷ ps) (suc i) v = p ∷ with_value ps i v
 
-  -- the pairs in the order of their keys
-  abbrev pub pairs : OrderedTable K V → List (K × V)
-  pairs t = picked t.rows.now (take t.used t.order.now)
-
-  -- how many pairs it can hold
-  abbrev pub most : OrderedTable K V → ℕ
-  most t = min (min (length t.rows.now) (length t.order.now)) 65535
-
-  -- each row that is used has its number in the order
-  pub record Sound (t : OrderedTable K V) : Type 0 where
-    pub in_rows : t.used ≤ length t.rows.now
-    pub in_order : t.used ≤ length t.order.now
-    pub in_count : t.used ≤ 65535
-    pub numbers : below t.used (take t.used t.order.now) ≡ true
+  -- what lies in these rows, of which so many are used, with their numbers in this order
+  abbrev pub contents : List (K × V) → List ℕ → ℕ → Contents K V
+  contents rows order used = record { pairs = picked rows (take used order); most = min (min (length rows) (length order)) 65535 }
 
   -- `full`, exactly if these pairs are more than the table can hold
-  abbrev pub full_denial : OrderedTable K V → List (K × V) → Option Denial
-  full_denial t ps = when (nat_lt (most t) (length ps)) (arises Word.full 0 Part.rules)
+  abbrev pub full_denial : Contents K V → List (K × V) → Option Denial
+  full_denial t ps = when (nat_lt t.most (length ps)) (arises Word.full 0 Part.rules)
 
   -- u is what is left of t when its pairs are to become `ps`, and r is the answer
-  pub record Added (t u : OrderedTable K V) (ps : List (K × V)) (r : Result (Unit {0}) code_denial.Denial) : Type 0 where
-    pub answer : Sound t → call_answer r ≡ denied_or (full_denial t ps) Answer.taken
-    pub after : Sound t → pairs u ≡ left_by (full_denial t ps) (pairs t) ps
-    pub sound : Sound t → Sound u
-    pub same_most : most u ≡ most t
+  pub record Inserted (t u : Contents K V) (ps : List (K × V)) (r : Result (Unit {0}) code_denial.Denial) : Type 0 where
+    pub answer : call_answer r ≡ denied_or (full_denial t ps) Answer.taken
+    pub after : u.pairs ≡ left_by (full_denial t ps) t.pairs ps
+    pub same_most : u.most ≡ t.most
 
   module _ (cmp : K → K → Ordering) where
     -- by their keys
@@ -85,25 +72,23 @@ module _ {K V : Type 0} where
     abbrev pub Past : List (K × V) → K → ℕ → Type 0
     Past ps k i = (j : ℕ) (d : K × V) → j < i → cmp k (slice_index_or ps j d).0 ≡ Greater
 
+    -- k is below the keys from place i on
+    abbrev pub Ahead : List (K × V) → K → ℕ → Type 0
+    Ahead ps k i = (j : ℕ) (d : K × V) → i ≤ j → j < length ps → cmp k (slice_index_or ps j d).0 ≡ Less
+
     -- where a key stands, or where it would
     abbrev pub Placed : List (K × V) → K → Result ℕ ℕ → Type 0
     Placed ps k (Ok i) = (i < length ps) × Past ps k i × ((d : K × V) → cmp k (slice_index_or ps i d).0 ≡ Equal)
-    Placed ps k (Err i) = (i ≤ length ps) × Past ps k i × ((d : K × V) → i < length ps → cmp k (slice_index_or ps i d).0 ≡ Less)
+    Placed ps k (Err i) = (i ≤ length ps) × Past ps k i × Ahead ps k i
 
-    -- what `new` gives and every call keeps
-    pub record Ordered (t : OrderedTable K V) : Type 0 where
-      pub sound : Sound t
-      pub rising : rises (pairs t) ≡ true
+    -- what is true of every table: its keys rise, and it holds no more than it can
+    pub record IsOrdered (t : Contents K V) : Type 0 where
+      pub rising : rises t.pairs ≡ true
+      pub in_places : length t.pairs ≤ t.most
 
-    -- u is what is left of t when its pairs are to become `ps`, and r is the answer
-    pub record Inserted (t u : OrderedTable K V) (ps : List (K × V)) (r : Result (Unit {0}) code_denial.Denial) : Type 0 where
-      pub answer : Ordered t → call_answer r ≡ denied_or (full_denial t ps) Answer.taken
-      pub after : Ordered t → pairs u ≡ left_by (full_denial t ps) (pairs t) ps
-      pub ordered : Ordered t → Ordered u
-      pub same_most : most u ≡ most t
-
-    -- u is t with another value at a place
-    pub record Revalued (t u : OrderedTable K V) (i : ℕ) (v : V) : Type 0 where
-      pub after : Ordered t → pairs u ≡ with_value (pairs t) i v
-      pub ordered : Ordered t → Ordered u
-      pub same_most : most u ≡ most t
+    -- so many rows are used, and their numbers stand in the order of their keys
+    pub record IsStored (rows : List (K × V)) (order : List ℕ) (used : ℕ) : Type 0 where
+      pub in_rows : used ≤ length rows
+      pub in_order : used ≤ length order
+      pub numbers : below used (take used order) ≡ true
+      pub rising : rises (picked rows (take used order)) ≡ true

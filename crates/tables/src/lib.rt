@@ -1,8 +1,6 @@
 // Pairs in key order over memory that the caller brings.
 #![tactic(auto)]
 
-pub mod key;
-mod rows;
 pub mod table;
 #[cfg(test)]
 mod tests;

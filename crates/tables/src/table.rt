@@ -1,28 +1,39 @@
 // Pairs in key order over memory that the caller brings: rows as they arrive, and their numbers in the order of their keys.
 // Finding a key halves what is left; an insertion moves numbers of 16 bits only.
 
-ghost use Rattle.std.specs.Prelude.{◌≡◌, ℕ, ◌+◌, ◌-◌, ◌<◌, ◌≤◌, min, [], length, MatchResult, nat_lt, slice_index_or};
-ghost use Rattle.std.specs.List.{insert as put_at};
-ghost use Rattle.spec.specs.Lists.{at, inserted};
-ghost use Rattle.tables.specs.Tables.{pairs, most, lookup, at_or_above, before, inserted_last, Placed, Sound, Ordered, Added, Inserted, Revalued};
+ghost use Rattle.std.specs.Prelude.{◌≡◌, ℕ, ◌+◌, ◌-◌, ◌<◌, ◌≤◌, min, [], length, Err, slice_set};
+ghost use Rattle.std.specs.declared.cmp.Ordering.TheVariants.{Equal};
+ghost use Rattle.std.specs.List.{insert as put_at, HoldsAt};
+ghost use Rattle.spec.specs.Lists.{at, inserted, replaced};
+ghost use Rattle.tables.specs.Tables.{lookup, at_or_above, before, with_value, Placed, IsOrdered, Inserted};
 
-use crate::key::Key;
-use crate::rows::{row, seek};
 use denials::denial::{Denial, Part, Word};
+use std::cmp::Ordering;
+use std::marker::Model;
 
-#[derive(Drop)]
-pub struct OrderedTable<'a, K, V> {
+#[derive(Debug, Drop)]
+pub struct OrderedTable<'a, K: Ord + Copy, V: Copy> {
     rows: &'a mut [(K, V)],
     order: &'a mut [u16],
     used: u16,
 }
 
-impl<'a, K: Key, V: Copy> OrderedTable<'a, K, V> {
+// A clause sees the pairs in key order, and how many there can be.
+impl<'a, K: Ord + Copy, V: Copy> Model for OrderedTable<'a, K, V> {
+    ghost use Rattle.tables.specs.Tables.{Contents, contents, IsStored};
+
+    ghost Value = { Contents K V };
+
+    ghost view = { λ t. contents t.rows.now t.order.now t.used };
+
+    ghost invariant = { λ t. IsStored K.cmp t.rows.now t.order.now t.used };
+}
+
+impl<'a, K: Ord + Copy, V: Copy> OrderedTable<'a, K, V> {
     // At most 65,535 places are used, and as many as both slices have.
-    pub fn new(rows: &'a mut [(K, V)], order: &'a mut [u16]) -> OrderedTable<'a, K, V>
-        ensures empty { pairs result ≡ [] }
-        ensures ordered { Ordered K.Key.cmp result }
-        ensures most { most result ≡ min (min (length rows.old) (length order.old)) 65535 }
+    pub fn new(rows: &'a mut [(K, V)], order: &'a mut [u16]) -> Self
+        ensures empty { result.pairs ≡ [] }
+        ensures most { result.most ≡ min (min (length rows.old) (length order.old)) 65535 }
     {
         OrderedTable {
             rows,
@@ -33,129 +44,109 @@ impl<'a, K: Key, V: Copy> OrderedTable<'a, K, V> {
 
     // How many pairs there are.
     pub fn len(&self) -> usize
-        ensures { Ordered K.Key.cmp self.now → result ≡ length (pairs self.now) }
+        ensures count { result ≡ length self.now.pairs }
+        ensures ordered { IsOrdered K.cmp self.now }
     {
         self.used as usize
     }
 
     // The pair at a place in key order.
     pub fn at(&self, i: usize) -> Option<(K, V)>
-        ensures { Ordered K.Key.cmp self.now → result ≡ at (pairs self.now) i }
+        ensures { result ≡ at self.now.pairs i }
     {
-        let count = (self.used as usize).min(self.order.len());
-        let order = &self.order[0..count];
-        row(self.rows, order, i)
+        let numbers = &self.order[..self.used as usize];
+        let n = *numbers.get(i)? as usize;
+        Some(self.rows[n])
     }
 
     // Where a key stands, or where it would.
-    fn place(&self, key: K) -> Result<usize, usize>
-        ensures bound { MatchResult result (λ i. i ≤ self.now.used) (λ i. i ≤ self.now.used) }
-        ensures finds { Ordered K.Key.cmp self.now → Placed K.Key.cmp (pairs self.now) key result }
+    fn place(&self, key: &K) -> Result<usize, usize>
+        ensures placed { Placed K.cmp self.now.pairs key.now result }
+        ensures ordered { IsOrdered K.cmp self.now }
     {
-        let count = (self.used as usize).min(self.order.len());
-        let order = &self.order[0..count];
-        seek(self.rows, order, key)
+        let numbers = &self.order[..self.used as usize];
+        // Each number in use has a row, but a search may ask its closure of any number.
+        numbers.binary_search_by(|&n| match self.rows.get(n as usize) {
+            Some(row) => row.0.cmp(key),
+            None => Ordering::Greater,
+        })
     }
 
     // The value of a key.
     pub fn get(&self, key: &K) -> Option<V>
-        ensures { Ordered K.Key.cmp self.now → result ≡ lookup K.Key.cmp (pairs self.now) key.now }
+        ensures { result ≡ lookup K.cmp self.now.pairs key.now }
     {
-        match self.place(*key) {
-            Ok(i) => match self.at(i) {
-                Some(pair) => Some(pair.1),
-                None => None,
-            },
-            Err(_) => None,
-        }
+        let i = self.place(key).ok()?;
+        self.at(i).map(|pair| pair.1)
     }
 
     // The place of the first key at or above this one.
     pub fn first_at_or_above(&self, key: &K) -> usize
-        ensures { Ordered K.Key.cmp self.now → result ≡ at_or_above K.Key.cmp (pairs self.now) key.now }
+        ensures { result ≡ at_or_above K.cmp self.now.pairs key.now }
     {
-        match self.place(*key) {
-            Ok(i) => i,
-            Err(i) => i,
-        }
+        self.place(key).unwrap_or_else(|i| i)
     }
 
     // Gives the pair at a place in key order another value.
     pub fn set_at(&mut self, i: usize, value: V)
-        ensures { Revalued K.Key.cmp self.old self.new i value }
+        ensures after { self.new.pairs ≡ with_value self.old.pairs i value }
+        ensures same_most { self.new.most ≡ self.old.most }
     {
-        if i >= self.used as usize {
-            return;
-        }
-        if i >= self.order.len() {
-            return;
-        }
-        let n = self.order[i] as usize;
-        if n >= self.rows.len() {
-            return;
-        }
-        let row = self.rows[n];
-        self.rows[n] = (row.0, value);
-    }
-
-    // Whether a place is free.
-    fn takes(&self) -> bool
-        ensures { result ≡ nat_lt self.now.used (most self.now) }
-    {
-        (self.used as usize) < self.rows.len()
-            && (self.used as usize) < self.order.len()
-            && self.used < 65535
-    }
-
-    // Moves the numbers from `i` on up by one.
-    fn open_up(&mut self, i: usize)
-        requires { (i ≤ self.old.used) × (self.old.used < length self.old.order.now) }
-        ensures rows { self.new.rows.now ≡ self.old.rows.now }
-        ensures long { length self.new.order.now ≡ length self.old.order.now }
-        ensures below { (k d : ℕ) → k ≤ i → slice_index_or self.new.order.now k d ≡ slice_index_or self.old.order.now k d }
-        ensures above { (k d : ℕ) → i < k → k ≤ self.old.used → slice_index_or self.new.order.now k d ≡ slice_index_or self.old.order.now (k - 1) d }
-    {
-        let mut j = self.used as usize;
-        while j > i {
-            let n = self.order[j - 1];
-            self.order[j] = n;
-            j -= 1;
+        if let Some(pair) = self.at(i) {
+            self.set_pair(i, (pair.0, value));
         }
     }
 
-    // Puts a new row behind the others and its number at `i`, or says `full`.
+    // Puts another pair with the same key at a place in key order.
+    fn set_pair(&mut self, i: usize, pair: (K, V))
+        requires { (i < length self.old.pairs) × HoldsAt (λ p. K.cmp pair.0 p.0 ≡ Equal) self.old.pairs i }
+        ensures after { self.new.pairs ≡ slice_set self.old.pairs i pair }
+        ensures same_most { self.new.most ≡ self.old.most }
+    {
+        let OrderedTable { rows, order, .. } = self;
+        rows[order[i] as usize] = pair;
+    }
+
+    // How many pairs it can hold.
+    fn most(&self) -> usize
+        ensures { result ≡ self.now.most }
+    {
+        self.rows.len().min(self.order.len()).min(u16::MAX as usize)
+    }
+
+    // Puts a row with a new key behind the others and its number at `i`, or says `full`.
     fn add(&mut self, i: usize, key: K, value: V) -> Result<(), Denial>
-        requires { i ≤ self.old.used }
-        ensures { Added self.old self.new (put_at (pairs self.old) i (key, value)) result }
+        requires { Placed K.cmp self.old.pairs key (Err i) }
+        ensures { Inserted self.old self.new (put_at self.old.pairs i (key, value)) result }
     {
-        let n = self.used;
-        if !self.takes() {
+        let used = self.used as usize;
+        if used == self.most() {
             return Err(Denial::new(Word::Full, 0, Part::Rules));
         }
-        self.open_up(i);
-        self.rows[n as usize] = (key, value);
-        self.order[i] = n;
-        self.used = n + 1;
+        self.rows[used] = (key, value);
+        self.order.copy_within(i..used, i + 1);
+        self.order[i] = self.used;
+        self.used += 1;
         Ok(())
     }
 
     // Adds a pair; an old key keeps its value.
     pub fn insert_first(&mut self, key: K, value: V) -> Result<(), Denial>
-        ensures { Inserted K.Key.cmp self.old self.new (inserted (before K.Key.cmp) (key, value) (pairs self.old)) result }
+        ensures { Inserted self.old self.new (inserted (before K.cmp) (key, value) self.old.pairs) result }
     {
-        match self.place(key) {
+        match self.place(&key) {
             Ok(_) => Ok(()),
             Err(i) => self.add(i, key, value),
         }
     }
 
-    // Adds a pair; an old key takes the new value.
+    // Adds a pair; it replaces one with that key.
     pub fn insert_last(&mut self, key: K, value: V) -> Result<(), Denial>
-        ensures { Inserted K.Key.cmp self.old self.new (inserted_last (before K.Key.cmp) (key, value) (pairs self.old)) result }
+        ensures { Inserted self.old self.new (replaced (before K.cmp) (key, value) self.old.pairs) result }
     {
-        match self.place(key) {
+        match self.place(&key) {
             Ok(i) => {
-                self.set_at(i, value);
+                self.set_pair(i, (key, value));
                 Ok(())
             }
             Err(i) => self.add(i, key, value),

@@ -1,6 +1,9 @@
-use Rattle.std.proofs.Common.{sym}
-use Rattle.tables.proofs.Inserting.{length_pairs}
+use Rattle.std.proofs.Common.{sym, arith}
+use Rattle.tables.proofs.Inserting.{length_stored, ordered}
 use Rattle.tables.proofs.table.OrderedTable.len.Goals as goal
 
-pub returns : goal.returns
-returns g c o = sym (length_pairs c.args.self.now o.sound)
+pub returns-clause-count : goal.returns-clause-count
+returns-clause-count g c = rw (← c.self.view_is) (sym (length_stored c.self.invariant))
+
+pub returns-clause-ordered : goal.returns-clause-ordered
+returns-clause-ordered g c = rw (← c.self.view_is) (ordered c.self.invariant (omega arith))

@@ -1,18 +1,16 @@
-use Rattle.std.proofs.Common.{◌≡◌, ℕ, ◌-◌, ◌≤◌, true, List, length, take, subst, arith, length-take}
-use Rattle.tables.specs.Tables.{below, picked, rises, Placed}
-use Rattle.list_laws.proofs.Cuts.{take_from_least}
-use Rattle.tables.proofs.Inserting.{wide, within}
+use Rattle.std.proofs.Common.{rules, arith}
+use Rattle.std.proofs.lemmas.Grind.{common_steps}
+use Rattle.std.proofs.lemmas.Option.{slice_get_cases}
+use Rattle.std.proofs.lemmas.Fn.{always_returns_same}
+use Rattle.tables.proofs.Inserting.{wide, ordered}
+use Rattle.tables.proofs.Searching.{compares, searched}
 use Rattle.tables.proofs.table.OrderedTable.place.Goals as goal
 
-pub returns : goal.returns
-returns g c =
-    let t = c.args.self.now in
-    let r = c.seek.result in
-    let e = take_from_least c.min-count.result t.used t.order.now c.min-count.ensures in
-    let n = length-take (c.min-count.result - 0) t.order.now in
-    let l : length (take (c.min-count.result - 0) t.order.now) ≤ t.used = omega (arith, n, c.min-count.ensures) in
-    record {
-      bound = within r _ t.used l c.seek.ensures.bound;
-      finds = λ o. subst (λ (ns : List ℕ). below (length t.rows.now) ns ≡ true → rises g.K.Key.cmp (picked t.rows.now ns) ≡ true → Placed g.K.Key.cmp (picked t.rows.now ns) c.args.key r)
-          e c.seek.ensures.finds (wide t o.sound) o.rising;
-    }
+pub returns-clause-placed : goal.returns-clause-placed
+returns-clause-placed g c =
+    let facts = c.binary_search_by.ensures in
+    let by = facts.position (compares g.K.Ord.cmp c.self.inside.rows.now c.args.key.now) (always_returns_same _ _ _ (λ a r f' called. (grind (arith, common_steps, slice_get_cases c.self.inside.rows.now a.0.now), search rules))) in
+    rw (← c.self.view_is) (searched g.met.K.Ord.total _ _ _ (wide c.self.invariant) c.self.invariant.rising c.binary_search_by.result facts.bound by)
+
+pub returns-clause-ordered : goal.returns-clause-ordered
+returns-clause-ordered g c = rw (← c.self.view_is) (ordered c.self.invariant (omega arith))
