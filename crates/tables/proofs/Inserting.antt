@@ -12,10 +12,10 @@ use Rattle.spec.specs.Lists.{at, map_some}
 use Rattle.denials.specs.declared.denial.Denial as code_denial
 use Rattle.denials.specs.Answers.{denied_or, left_by}
 use Rattle.denials.specs.Denials.{denial_of}
-use Rattle.tables.specs.Tables.{below, picked, rises, lookup, at_or_above, full_denial, Contents, contents, Placed, Inserted, IsOrdered, IsStored}
+use Rattle.tables.specs.Tables.{Below, picked, rises, lookup, at_or_above, full_denial, Contents, contents, Placed, Inserted, IsOrdered, IsStored}
 use Rattle.list_laws.proofs.Cuts.{at_getD}
 use Rattle.tables.proofs.KeyOrder.{lookup_at, lookup_none, above_at, rises_put, rises_set, apart}
-use Rattle.tables.proofs.Picks.{below_at, below_wider, below_inserted, length_picked, get_d_picked, picked_inserted, picked_set}
+use Rattle.tables.proofs.Picks.{below_wider, below_inserted, length_picked, get_d_picked, picked_inserted, picked_set}
 use Rattle.tables.proofs.Shifts.{opened}
 
 -- ---- the answer
@@ -51,7 +51,7 @@ lookup_missing c ps k (Err i) h e = sym (lookup_none c ps k i h.1 h.2)
 module _ {K V : Type 0} {c : K → K → Ordering} where
   -- ---- what is stored
   module _ {rows : List (K × V)} {order : List ℕ} {used : ℕ} (s : IsStored c rows order used) where
-    pub wide : below (length rows) (take used order) ≡ true
+    pub wide : Below (length rows) (take used order)
     wide = below_wider used (length rows) (take used order) s.in_rows s.numbers
 
     pub length_numbers : length (take used order) ≡ used
@@ -109,7 +109,7 @@ module _ {K V : Type 0} {c : K → K → Ordering} where
           record {
             in_rows = omega arith;
             in_order = omega arith;
-            numbers = ap (below (used + 1)) numbers ∙ below_inserted used i (take used order) s.numbers;
+            numbers = rw numbers (below_inserted used i (take used order) s.numbers);
             rising = ap (rises c) added ∙ rises_put c o (picked rows (take used order)) k v i s.rising gap.0 gap.1 (λ d m. gap.2 i d (omega arith) m);
           }
 
@@ -128,7 +128,7 @@ module _ {K V : Type 0} {c : K → K → Ordering} where
     above ps k (Err i) h = above_at c o ps k i h.0 h.1 (λ d m. ap is_lt (o.antisymm _ k ∙ ap ordering_reverse (h.2 i d (omega arith) m)))
 
     -- no number stands twice
-    once : (rows : List (K × V)) (ns : List ℕ) → below (length rows) ns ≡ true → rises c (picked rows ns) ≡ true → (i j : ℕ) (d : K × V) → i < length ns → j < length ns → get_or ns j 0 ≡ get_or ns i 0 → j ≡ i
+    once : (rows : List (K × V)) (ns : List ℕ) → Below (length rows) ns → rises c (picked rows ns) ≡ true → (i j : ℕ) (d : K × V) → i < length ns → j < length ns → get_or ns j 0 ≡ get_or ns i 0 → j ≡ i
     once rows ns h r i j d l m e = by_order (cases_order j i)
       where
         n : length (picked rows ns) ≡ length ns
@@ -143,7 +143,7 @@ module _ {K V : Type 0} {c : K → K → Ordering} where
         by_order (inr (inr q)) = absurd (apart c o (picked rows ns) r i j d q (omega (arith, n)) (sym same))
 
     -- a row is written over
-    pub set_row : (rows : List (K × V)) (ns : List ℕ) (i n : ℕ) (x : K × V) → below (length rows) ns ≡ true → rises c (picked rows ns) ≡ true → i < length ns → n ≡ get_or ns i 0
+    pub set_row : (rows : List (K × V)) (ns : List ℕ) (i n : ℕ) (x : K × V) → Below (length rows) ns → rises c (picked rows ns) ≡ true → i < length ns → n ≡ get_or ns i 0
         → picked (set rows n x) ns ≡ set (picked rows ns) i x
     set_row rows ns i n x h r l e = ap (λ m. picked (set rows m x) ns) e ∙ picked_set rows ns i x h l (λ j m q. once rows ns h r i j x l m q)
 
@@ -156,7 +156,7 @@ module _ {K V : Type 0} {c : K → K → Ordering} where
       row_within =
           let w = within_used in
           let n = length_numbers s in
-          let b = below_at (length rows) (take used order) (wide s) i 0 (omega arith) in
+          let b = wide s i 0 (omega arith) in
           rw (← get_or-take used order i 0 w) b
 
       pub replaced_pair : picked (set rows (get_or order i 0) x) (take used order) ≡ set (picked rows (take used order)) i x

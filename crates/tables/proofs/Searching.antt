@@ -7,9 +7,9 @@ use Rattle.std.specs.Ordering.{is_lt, ordering_index, ordering_reverse}
 use Rattle.std.proofs.lemmas.List.{get_or_default}
 use Rattle.std.proofs.lemmas.List.Sorted.{searchable_from_sorted}
 use Rattle.std.proofs.lemmas.Option.{slice_get-get_or}
-use Rattle.tables.specs.Tables.{below, picked, rises, Placed}
+use Rattle.tables.specs.Tables.{Below, picked, rises, Placed}
 use Rattle.tables.proofs.KeyOrder.{rises_less, past_same}
-use Rattle.tables.proofs.Picks.{below_at, length_picked, get_d_picked}
+use Rattle.tables.proofs.Picks.{length_picked, get_d_picked}
 
 -- how the key of row n stands to k; a number that no row has comes last
 abbrev pub compares : {K V : Type 0} → (K → K → Ordering) → List (K × V) → K → ℕ → Ordering
@@ -19,13 +19,13 @@ module _ {K V : Type 0} {c : K → K → Ordering} (o : IsTotalOrder c) where
   sorted : (ps : List (K × V)) → rises c ps ≡ true → IsSortedBy (λ p q. is_lt (c p.0 q.0)) ps
   sorted ps h i d z l = ap is_lt (o.antisymm _ _ ∙ ap ordering_reverse (rises_less c ps h i (i + 1) d (omega arith) l))
 
-  compares_at : (rows : List (K × V)) (ns : List ℕ) (k : K) → below (length rows) ns ≡ true → (i m : ℕ) (d : K × V) → i < length ns → compares c rows k (get_or ns i m) ≡ c (get_or (picked rows ns) i d).0 k
+  compares_at : (rows : List (K × V)) (ns : List ℕ) (k : K) → Below (length rows) ns → (i m : ℕ) (d : K × V) → i < length ns → compares c rows k (get_or ns i m) ≡ c (get_or (picked rows ns) i d).0 k
   compares_at rows ns k h i m d l =
-      ap (λ q. unwrap_or (option_map (λ p. c p.0 k) q) Greater) (slice_get-get_or rows (get_or ns i m) d (below_at (length rows) ns h i m l))
+      ap (λ q. unwrap_or (option_map (λ p. c p.0 k) q) Greater) (slice_get-get_or rows (get_or ns i m) d (h i m l))
       ∙ ap (λ p. c p.0 k) (ap (λ n. get_or rows n d) (get_or_default ns i m 0 l) ∙ sym (get_d_picked rows ns h i d l))
 
-  rising : (rows : List (K × V)) (ns : List ℕ) (k : K) → below (length rows) ns ≡ true → rises c (picked rows ns) ≡ true → IsNonDecreasingBy (λ n. ordering_index (compares c rows k n)) ns
-  rising [] ns k h r i j d le l = let w : get_or ns j d < 0 = below_at 0 ns h j d l in absurd (let z : ⊥ = omega arith in z)
+  rising : (rows : List (K × V)) (ns : List ℕ) (k : K) → Below (length rows) ns → rises c (picked rows ns) ≡ true → IsNonDecreasingBy (λ n. ordering_index (compares c rows k n)) ns
+  rising [] ns k h r i j d le l = let w : get_or ns j d < 0 = h j d l in absurd (let z : ⊥ = omega arith in z)
   rising (p ∷ rows) ns k h r i j d le l =
       let e = length_picked (p ∷ rows) ns h in
       let l' : i < length ns = omega arith in
@@ -35,7 +35,7 @@ module _ {K V : Type 0} {c : K → K → Ordering} (o : IsTotalOrder c) where
       let q = searchable_from_sorted o (λ (x : K × V). x.0) (picked (p ∷ rows) ns) k (sorted _ r) i j p le m in
       omega (arith, a, b, q)
 
-  pub searched : (rows : List (K × V)) (ns : List ℕ) (k : K) → below (length rows) ns ≡ true → rises c (picked rows ns) ≡ true
+  pub searched : (rows : List (K × V)) (ns : List ℕ) (k : K) → Below (length rows) ns → rises c (picked rows ns) ≡ true
       → (r : Result ℕ ℕ) → IsSearchInRange r (length ns) → IsBinarySearchResult (compares c rows k) ns r → Placed c (picked rows ns) k r
   searched rows ns k h r (Ok i) l e =
       let n = length_picked rows ns h in

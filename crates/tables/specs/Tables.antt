@@ -2,6 +2,7 @@
 use Rattle.std.specs.Prelude.{◌≡◌, ℕ, zero, suc, ◌<◌, ◌≤◌, min, Bool, true, false, ◌&&◌, List, [], ◌∷◌, ◌++◌, length, take, drop, Ok, Err, Option, Result, nat_lt, slice_index_or}
 use Rattle.std.specs.declared.cmp.Ordering.TheVariants.{Less, Equal, Greater}
 use Rattle.std.specs.declared.cmp.Ordering.{Ordering}
+use Rattle.std.specs.List.{All}
 use Rattle.std.specs.Ordering.{is_eq, is_lt}
 use Rattle.spec.specs.Denials.{Word, Part, Denial, Answer, arises, when}
 use Rattle.spec.specs.Lists.{first, map_some}
@@ -9,9 +10,8 @@ use Rattle.denials.specs.declared.denial.Denial as code_denial
 use Rattle.denials.specs.Answers.{call_answer, denied_or, left_by}
 
 -- every number is below m
-abbrev pub below : ℕ → List ℕ → Bool
-below m [] = true
-below m (n ∷ ns) = nat_lt n m && below m ns
+abbrev pub Below : ℕ → List ℕ → Type 0
+Below m ns = All (λ n. n < m) ns
 
 -- the rows of these numbers
 abbrev pub picked : {A : Type 0} → List A → List ℕ → List A
@@ -90,5 +90,5 @@ module _ {K V : Type 0} where
     pub record IsStored (rows : List (K × V)) (order : List ℕ) (used : ℕ) : Type 0 where
       pub in_rows : used ≤ length rows
       pub in_order : used ≤ length order
-      pub numbers : below used (take used order) ≡ true
+      pub numbers : Below used (take used order)
       pub rising : rises (picked rows (take used order)) ≡ true

@@ -2,7 +2,7 @@ use Rattle.std.proofs.Common.{◌≡◌, ◌<◌, ◌≤◌, length, get_or, tak
 use Rattle.list_laws.proofs.Cuts.{at_past, at_getD}
 use Rattle.tables.specs.Tables.{picked}
 use Rattle.tables.proofs.Inserting.{wide, length_numbers, length_stored}
-use Rattle.tables.proofs.Picks.{below_at, get_d_picked}
+use Rattle.tables.proofs.Picks.{get_d_picked}
 use Rattle.tables.proofs.table.OrderedTable.at.Goals as goal
 
 pub returns-in_err-n : goal.returns-in_err-n
@@ -17,7 +17,7 @@ pub bounds-self-inside-n : goal.bounds-self-inside-n
 bounds-self-inside-n g c =
     let item = c.in_ok-n.ensures.lookup.3 in
     let e : c.in_ok-n.field-0.now ≡ get_or (take c.self.inside.used c.self.inside.order.now) c.args.i 0 = item.1 0 in
-    rw e (below_at _ _ (wide c.self.invariant) c.args.i 0 item.0)
+    rw e (wide c.self.invariant c.args.i 0 item.0)
 
 pub offset_bounds-self-inside-n : goal.offset_bounds-self-inside-n
 offset_bounds-self-inside-n g c = let b : c.in_ok-n.field-0.now < length c.self.inside.rows.now = bounds-self-inside-n g c in search rules
