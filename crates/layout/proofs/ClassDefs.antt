@@ -1,5 +1,5 @@
 -- The fields of a class definition in either format.
-use Rattle.std.proofs.Common.{◌≡◌, ℕ, ◌+◌, ◌*◌, Bool, true, false, cond, ltb, List, [], ◌∷◌, ◌++◌, map, length, Some, None, Ok, Option, sym, refl, ap, ◌∙◌, arith}
+use Rattle.std.proofs.Common.{◌≡◌, ℕ, ◌+◌, ◌*◌, Bool, true, false, cond, List, [], ◌∷◌, ◌++◌, map, length, Some, None, Ok, Option, sym, refl, ap, ◌∙◌, arith}
 use Rattle.spec.specs.Fields.{big_endian, Stand}
 use Rattle.spec.specs.Entries.{unsorted}
 use Rattle.spec.specs.Coverage.{Range, ranges}
@@ -16,17 +16,13 @@ use Rattle.layout.specs.Described.{table_fields}
 use Rattle.layout.proofs.Whole.{room_is, below_fields}
 use Rattle.layout.proofs.Listing.{sorted_rises}
 
-is_one : (b : Bool) → ◌≡◌ {A = ℕ} (cond b 1 2) 1 → b ≡ true
+is_one : (b : Bool) → ◌≡◌ {A = ℕ} 1 (cond b 1 2) → b ≡ true
 is_one true e = refl
 is_one false e = absurd (omega arith)
 
-not_one : (b : Bool) → (◌≡◌ {A = ℕ} (cond b 1 2) 1 → ⊥) → b ≡ false
-not_one true e = absurd (e refl)
-not_one false e = refl
-
-pub shorter_is : (ps : List (ℕ × ℕ)) → shorter_as_array ps ≡ ltb (6 + 2 * span ps) (4 + 6 * length (ranges ps))
-shorter_is [] = refl
-shorter_is (p ∷ ps) = refl
+is_two : (b : Bool) → ◌≡◌ {A = ℕ} 2 (cond b 1 2) → b ≡ false
+is_two true e = absurd (omega arith)
+is_two false e = refl
 
 length_class_ranges : (rs : List Range) → length (class_range_fields rs) ≡ 3 * length rs
 length_class_ranges [] = refl
@@ -52,38 +48,40 @@ module _ (ps : List (ℕ × ℕ)) where
   range_fields : shorter_as_array ps ≡ false → table_fields (class_def ps) ≡ 2 ∷ length (ranges ps) ∷ class_range_fields (ranges ps)
   range_fields b = ap (λ t. table_fields (cond t by_array by_ranges)) b ∙ ap (λ l. 2 ∷ length (ranges ps) ∷ l) (fields_head (class_range_fields (ranges ps)) (own by_ranges))
 
-  module _ (f n : ℕ) (p : f ≡ class_format ps) (q : n ≡ class_count ps) where
-    array : f ≡ 1 → shorter_as_array ps ≡ true
-    array o = is_one (shorter_as_array ps) (sym p ∙ o)
+  module _ (n : ℕ) (q : n ≡ class_count ps) where
+    module _ (p : 1 ≡ class_format ps) where
+      array : shorter_as_array ps ≡ true
+      array = is_one (shorter_as_array ps) p
 
-    pub array_span : f ≡ 1 → n ≡ span ps
-    array_span o = q ∙ ap (λ b. cond b (span ps) (length (ranges ps))) (array o)
+      array_span : n ≡ span ps
+      array_span = q ∙ ap (λ b. cond b (span ps) (length (ranges ps))) array
 
-    pub array_pieces : f ≡ 1 → (first : ℕ) → first ≡ first_listed ps → big_endian (1 ∷ first ∷ n ∷ []) ++ big_endian (class_array ps) ≡ big_endian (table_fields (class_def ps))
-    array_pieces o first e = sym (ap big_endian (array_fields (array o)) ∙ ap (λ x. big_endian (1 ∷ x ∷ span ps ∷ class_array ps)) (sym e) ∙ ap (λ x. big_endian (1 ∷ first ∷ x ∷ class_array ps)) (sym (array_span o)))
+      pub array_pieces : (first : ℕ) → first ≡ first_listed ps → big_endian (1 ∷ first ∷ n ∷ []) ++ big_endian (class_array ps) ≡ big_endian (table_fields (class_def ps))
+      array_pieces first e = sym (ap big_endian (array_fields array) ∙ ap (λ x. big_endian (1 ∷ x ∷ span ps ∷ class_array ps)) (sym e) ∙ ap (λ x. big_endian (1 ∷ first ∷ x ∷ class_array ps)) (sym array_span))
 
-    by_range : (f ≡ 1 → ⊥) → shorter_as_array ps ≡ false
-    by_range o = not_one (shorter_as_array ps) (λ e. o (p ∙ e))
+      pub array_size : class_fault ps ≡ None → 6 + 2 * n ≡ room (class_fault ps) (table_fields (class_def ps))
+      array_size e =
+          let r = room_is (class_fault ps) (table_fields (class_def ps)) e in
+          let l = ap length (array_fields array) in
+          let k : length (class_array ps) ≡ span ps = length_map_numbers (class_at ps) (first_listed ps) (span ps) in
+          let m = array_span in omega arith
 
-    range_count : (f ≡ 1 → ⊥) → n ≡ length (ranges ps)
-    range_count o = q ∙ ap (λ b. cond b (span ps) (length (ranges ps))) (by_range o)
+    module _ (p : 2 ≡ class_format ps) where
+      by_range : shorter_as_array ps ≡ false
+      by_range = is_two (shorter_as_array ps) p
 
-    pub range_pieces : (f ≡ 1 → ⊥) → big_endian (2 ∷ n ∷ []) ++ big_endian (class_range_fields (ranges ps)) ≡ big_endian (table_fields (class_def ps))
-    range_pieces o = sym (ap big_endian (range_fields (by_range o)) ∙ ap (λ x. big_endian (2 ∷ x ∷ class_range_fields (ranges ps))) (sym (range_count o)))
+      range_count : n ≡ length (ranges ps)
+      range_count = q ∙ ap (λ b. cond b (span ps) (length (ranges ps))) by_range
 
-    pub array_size : class_fault ps ≡ None → f ≡ 1 → 6 + 2 * n ≡ room (class_fault ps) (table_fields (class_def ps))
-    array_size e o =
-        let r = room_is (class_fault ps) (table_fields (class_def ps)) e in
-        let l = ap length (array_fields (array o)) in
-        let k : length (class_array ps) ≡ span ps = length_map_numbers (class_at ps) (first_listed ps) (span ps) in
-        let m = array_span o in omega arith
+      pub range_pieces : big_endian (2 ∷ n ∷ []) ++ big_endian (class_range_fields (ranges ps)) ≡ big_endian (table_fields (class_def ps))
+      range_pieces = sym (ap big_endian (range_fields by_range) ∙ ap (λ x. big_endian (2 ∷ x ∷ class_range_fields (ranges ps))) (sym range_count))
 
-    pub range_size : class_fault ps ≡ None → (f ≡ 1 → ⊥) → 4 + 6 * n ≡ room (class_fault ps) (table_fields (class_def ps))
-    range_size e o =
-        let r = room_is (class_fault ps) (table_fields (class_def ps)) e in
-        let l = ap length (range_fields (by_range o)) in
-        let k = length_class_ranges (ranges ps) in
-        let m = range_count o in omega arith
+      pub range_size : class_fault ps ≡ None → 4 + 6 * n ≡ room (class_fault ps) (table_fields (class_def ps))
+      range_size e =
+          let r = room_is (class_fault ps) (table_fields (class_def ps)) e in
+          let l = ap length (range_fields by_range) in
+          let k = length_class_ranges (ranges ps) in
+          let m = range_count in omega arith
 
   pub class_back : (bs : List ℕ) (at g : ℕ) → class_fault ps ≡ None → Stand bs at (table_fields (class_def ps)) → class bs at g ≡ Ok (class_at ps g)
   class_back bs at g e s = class_reads bs at ps g (class_rises e) (s, go (shorter_as_array ps))

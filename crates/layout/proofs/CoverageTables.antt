@@ -11,13 +11,13 @@ use Rattle.layout.specs.Faults.{coverage_fault}
 use Rattle.layout.specs.Described.{table_fields}
 use Rattle.layout.proofs.Whole.{room_is, below_fields}
 
-pub is_one : (b : Bool) → ◌≡◌ {A = ℕ} (cond b 2 1) 1 → b ≡ false
+is_one : (b : Bool) → ◌≡◌ {A = ℕ} 1 (cond b 2 1) → b ≡ false
 is_one true e = absurd (omega arith)
 is_one false e = refl
 
-pub not_one : (b : Bool) → (◌≡◌ {A = ℕ} (cond b 2 1) 1 → ⊥) → b ≡ true
-not_one true e = refl
-not_one false e = absurd (e refl)
+is_two : (b : Bool) → ◌≡◌ {A = ℕ} 2 (cond b 2 1) → b ≡ true
+is_two true e = refl
+is_two false e = absurd (omega arith)
 
 length_range_fields : (i : ℕ) (rs : List Range) → length (range_fields i rs) ≡ 3 * length rs
 length_range_fields i [] = refl
@@ -27,33 +27,33 @@ module _ (gs : List ℕ) where
   pub cover_fields : table_fields (coverage gs) ≡ coverage_format gs ∷ coverage_count gs ∷ coverage_entries gs
   cover_fields = ap (λ l. coverage_format gs ∷ coverage_count gs ∷ l) (fields_head (coverage_entries gs) (own (coverage gs)))
 
-  module _ (f n : ℕ) (p : f ≡ coverage_format gs) (q : n ≡ coverage_count gs) where
-    pieces : (es : List ℕ) → coverage_entries gs ≡ es → big_endian (f ∷ n ∷ []) ++ big_endian es ≡ big_endian (table_fields (coverage gs))
-    pieces es e = sym (ap big_endian (cover_fields ∙ ap (λ l. coverage_format gs ∷ coverage_count gs ∷ l) e) ∙ ap (λ x. big_endian (x ∷ coverage_count gs ∷ es)) (sym p) ∙ ap (λ x. big_endian (f ∷ x ∷ es)) (sym q))
+  as_glyphs : 1 ≡ coverage_format gs → shorter_as_ranges gs ≡ false
+  as_glyphs p = is_one (shorter_as_ranges gs) p
 
-    as_glyphs : f ≡ 1 → shorter_as_ranges gs ≡ false
-    as_glyphs o = is_one (shorter_as_ranges gs) (sym p ∙ o)
+  as_ranges : 2 ≡ coverage_format gs → shorter_as_ranges gs ≡ true
+  as_ranges p = is_two (shorter_as_ranges gs) p
 
-    as_ranges : (f ≡ 1 → ⊥) → shorter_as_ranges gs ≡ true
-    as_ranges o = not_one (shorter_as_ranges gs) (λ e. o (p ∙ e))
+  module _ (n : ℕ) (q : n ≡ coverage_count gs) where
+    pieces : (f : ℕ) → f ≡ coverage_format gs → (es : List ℕ) → coverage_entries gs ≡ es → big_endian (f ∷ n ∷ []) ++ big_endian es ≡ big_endian (table_fields (coverage gs))
+    pieces f p es e = sym (ap big_endian (cover_fields ∙ ap (λ l. coverage_format gs ∷ coverage_count gs ∷ l) e) ∙ ap (λ x. big_endian (x ∷ coverage_count gs ∷ es)) (sym p) ∙ ap (λ x. big_endian (f ∷ x ∷ es)) (sym q))
 
-    pub glyph_pieces : f ≡ 1 → big_endian (f ∷ n ∷ []) ++ big_endian gs ≡ big_endian (table_fields (coverage gs))
-    glyph_pieces o = pieces gs (ap (λ b. cond b (range_fields 0 (glyph_ranges gs)) gs) (as_glyphs o))
+    pub glyph_pieces : 1 ≡ coverage_format gs → big_endian (1 ∷ n ∷ []) ++ big_endian gs ≡ big_endian (table_fields (coverage gs))
+    glyph_pieces p = pieces 1 p gs (ap (λ b. cond b (range_fields 0 (glyph_ranges gs)) gs) (as_glyphs p))
 
-    pub range_pieces : (f ≡ 1 → ⊥) → big_endian (f ∷ n ∷ []) ++ big_endian (range_fields 0 (glyph_ranges gs)) ≡ big_endian (table_fields (coverage gs))
-    range_pieces o = pieces (range_fields 0 (glyph_ranges gs)) (ap (λ b. cond b (range_fields 0 (glyph_ranges gs)) gs) (as_ranges o))
+    pub range_pieces : 2 ≡ coverage_format gs → big_endian (2 ∷ n ∷ []) ++ big_endian (range_fields 0 (glyph_ranges gs)) ≡ big_endian (table_fields (coverage gs))
+    range_pieces p = pieces 2 p (range_fields 0 (glyph_ranges gs)) (ap (λ b. cond b (range_fields 0 (glyph_ranges gs)) gs) (as_ranges p))
 
-    pub glyph_size : coverage_fault gs ≡ None → f ≡ 1 → 4 + 2 * n ≡ room (coverage_fault gs) (table_fields (coverage gs))
-    glyph_size e o =
+    pub glyph_size : coverage_fault gs ≡ None → 1 ≡ coverage_format gs → 4 + 2 * n ≡ room (coverage_fault gs) (table_fields (coverage gs))
+    glyph_size e p =
         let r = room_is (coverage_fault gs) (table_fields (coverage gs)) e in
-        let l = ap length (cover_fields ∙ ap (λ b. coverage_format gs ∷ coverage_count gs ∷ cond b (range_fields 0 (glyph_ranges gs)) gs) (as_glyphs o)) in
-        let m = ap (λ b. cond b (length (glyph_ranges gs)) (length gs)) (as_glyphs o) in omega arith
+        let l = ap length (cover_fields ∙ ap (λ b. coverage_format gs ∷ coverage_count gs ∷ cond b (range_fields 0 (glyph_ranges gs)) gs) (as_glyphs p)) in
+        let m = ap (λ b. cond b (length (glyph_ranges gs)) (length gs)) (as_glyphs p) in omega arith
 
-    pub range_size : coverage_fault gs ≡ None → (f ≡ 1 → ⊥) → 4 + 6 * n ≡ room (coverage_fault gs) (table_fields (coverage gs))
-    range_size e o =
+    pub range_size : coverage_fault gs ≡ None → 2 ≡ coverage_format gs → 4 + 6 * n ≡ room (coverage_fault gs) (table_fields (coverage gs))
+    range_size e p =
         let r = room_is (coverage_fault gs) (table_fields (coverage gs)) e in
-        let l = ap length (cover_fields ∙ ap (λ b. coverage_format gs ∷ coverage_count gs ∷ cond b (range_fields 0 (glyph_ranges gs)) gs) (as_ranges o)) in
-        let m = ap (λ b. cond b (length (glyph_ranges gs)) (length gs)) (as_ranges o) in
+        let l = ap length (cover_fields ∙ ap (λ b. coverage_format gs ∷ coverage_count gs ∷ cond b (range_fields 0 (glyph_ranges gs)) gs) (as_ranges p)) in
+        let m = ap (λ b. cond b (length (glyph_ranges gs)) (length gs)) (as_ranges p) in
         let k = length_range_fields 0 (glyph_ranges gs) in omega arith
 
   pub coverage_back : (bs : List ℕ) (at g : ℕ) → Stand bs at (table_fields (coverage gs)) → covered bs at g ≡ Ok (coverage_index gs g)

@@ -3,7 +3,7 @@ use Rattle.std.proofs.Common.{◌≡◌, ℕ, ◌+◌, ◌-◌, ◌<◌, ◌≤�
 use Rattle.std.proofs.lemmas.Bool.Decides.{nat_tests}
 use Rattle.std.proofs.lemmas.List.{at_drop_more, at_drop_all}
 use Rattle.spec.specs.Entries.{not_rising, unsorted}
-use Rattle.spec.specs.Classes.{class_at, first_listed, last_from, span}
+use Rattle.spec.specs.Classes.{class_at, last_from, span}
 use Rattle.laws.specs.Conditions.{Above, Rising}
 use Rattle.layout.specs.declared.glyph_class.GlyphClass.{GlyphClass}
 use Rattle.layout.specs.Listing.{listed, here}
@@ -11,41 +11,17 @@ use Rattle.layout.specs.Listing.{listed, here}
 abbrev pub none : GlyphClass
 none = record { glyph = 0; class = 0 }
 
--- ---- one place
-
-module _ (cs : List GlyphClass) (i g : ℕ) where
-  pub here_none : length cs ≤ i → ◌≡◌ {A = ℕ × ℕ} (0, 0) (here (listed (drop i cs)) g)
-  here_none h = sym (at_drop_all (λ l. here (listed l) g) cs i h)
-
-  pub here_yes : i < length cs → (get_or cs i none).glyph ≡ g → ◌≡◌ {A = ℕ × ℕ} ((get_or cs i none).class, 1) (here (listed (drop i cs)) g)
-  here_yes h e = sym (at_drop_more (λ l. here (listed l) g) cs i none h ∙ go (eqb (get_or cs i none).glyph g) (grind (arith, nat_tests)))
-    where
-      go : (b : Bool) → b ≡ true → ◌≡◌ {A = ℕ × ℕ} (elim b [ true ↦ ((get_or cs i none).class, 1) | false ↦ (0, 0) ]) ((get_or cs i none).class, 1)
-      go true p = refl
-      go false p = cc
-
-  pub here_no : i < length cs → ((get_or cs i none).glyph ≡ g → ⊥) → ◌≡◌ {A = ℕ × ℕ} (0, 0) (here (listed (drop i cs)) g)
-  here_no h e = sym (at_drop_more (λ l. here (listed l) g) cs i none h ∙ go (eqb (get_or cs i none).glyph g) refl)
-    where
-      go : (b : Bool) → eqb (get_or cs i none).glyph g ≡ b → ◌≡◌ {A = ℕ × ℕ} (elim b [ true ↦ ((get_or cs i none).class, 1) | false ↦ (0, 0) ]) (0, 0)
-      go true p = absurd (e (grind (arith, nat_tests)))
-      go false p = refl
-
 -- ---- the first and the last
 
-last_at : (x : GlyphClass) (cs : List GlyphClass) → last_from x.glyph (listed cs) ≡ (get_or (x ∷ cs) (length cs) none).glyph
-last_at x [] = refl
-last_at x (y ∷ cs) = last_at y cs
+last_at : (x : GlyphClass) (cs : List GlyphClass) (d : GlyphClass) → last_from x.glyph (listed cs) ≡ (get_or (x ∷ cs) (length cs) d).glyph
+last_at x [] d = refl
+last_at x (y ∷ cs) d = last_at y cs d
 
-pub no_span : (cs : List GlyphClass) → length cs ≡ 0 → (first_listed (listed cs) ≡ 0) × (span (listed cs) ≡ 0)
-no_span [] e = (refl, refl)
-no_span (x ∷ cs) e = absurd (omega arith)
-
-pub ends_at : (cs : List GlyphClass) → (length cs ≡ 0 → ⊥) → (first_listed (listed cs) ≡ (get_or cs 0 none).glyph) × (span (listed cs) ≡ (get_or cs (length cs - 1) none).glyph - (get_or cs 0 none).glyph + 1)
-ends_at [] e = absurd (e refl)
-ends_at (x ∷ cs) e =
+pub ends_at : (cs : List GlyphClass) (first last : GlyphClass) → last ≡ get_or cs (length cs - 1) last → first ≡ get_or cs 0 first → 0 < length cs → span (listed cs) ≡ last.glyph - first.glyph + 1
+ends_at [] first last p q h = absurd (omega arith)
+ends_at (x ∷ cs) first last p q h =
     let n : length (x ∷ cs) - 1 ≡ length cs = omega arith in
-    (refl, ap (λ l. l - x.glyph + 1) (last_at x cs ∙ ap (λ k. (get_or (x ∷ cs) k none).glyph) (sym n)))
+    ap (λ l. l - x.glyph + 1) (last_at x cs last ∙ ap (λ k. (get_or (x ∷ cs) k last).glyph) (sym n) ∙ ap (λ e. e.glyph) (sym p)) ∙ ap (λ e. last.glyph - e.glyph + 1) (sym q)
 
 -- ---- rising
 

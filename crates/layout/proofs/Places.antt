@@ -1,29 +1,10 @@
 -- Writes one after the other: what stands so far, and what is to come.
-use Rattle.std.proofs.Common.{◌≡◌, ℕ, ◌+◌, ◌-◌, ◌<◌, ◌≤◌, List, [], ◌∷◌, ◌++◌, length, take, drop, set, Ok, Err, Result, sym, refl, ap, ◌∙◌, subst, append-nil, arith}
-use Rattle.std.proofs.lemmas.List.{append_assoc, length-append, length-drop, length-take, drop-drop, take-append-drop, take_at, drop_at, length-take-le, set-append_right}
+use Rattle.std.proofs.Common.{◌≡◌, ℕ, ◌+◌, ◌<◌, ◌≤◌, List, [], ◌++◌, length, take, drop, Ok, Err, Result, sym, refl, ap, ◌∙◌, subst, append-nil, arith}
+use Rattle.std.proofs.lemmas.List.{append_assoc, length-append, length-drop, length-take, drop-drop, take-append-drop, take_at, drop_at, length-take-le}
 use Rattle.layout.specs.declared.output.Output.{Output}
 use Rattle.denials.specs.declared.denial.Denial.{Denial}
 use Rattle.denials.specs.Denials.{word_of, part_of}
 use Rattle.layout.specs.Writing.{placed, After, Wrote}
-
--- writing two bytes just behind the front p
-set_two : (p r : List ℕ) (u a b : ℕ) → length p ≡ u → 2 ≤ length r →
-    set (set (p ++ r) u a) (u + 1) b ≡ p ++ a ∷ b ∷ drop 2 r
-set_two p [] u a b e h = absurd (omega arith)
-set_two p (x ∷ []) u a b e h = absurd (omega arith)
-set_two p (x ∷ y ∷ r) u a b e h =
-    let z : u - u ≡ 0 = omega arith in
-    let z1 : (u + 1) - u ≡ 1 = omega arith in
-    let k : u ≤ u = omega arith in
-    let k1 : u ≤ u + 1 = omega arith in
-    rw (set-append_right p (x ∷ y ∷ r) u u a e k, z, set-append_right p (a ∷ y ∷ r) u (u + 1) b e k1, z1)
-
-pub set_word : (b : List ℕ) (u hi lo : ℕ) → u + 2 ≤ length b → set (set b u hi) (u + 1) lo ≡ placed b u (hi ∷ lo ∷ [])
-set_word b u hi lo h =
-    let k : u ≤ length b = omega arith in
-    let m : length (take u b) ≡ u = length-take-le u b k in
-    let r : 2 ≤ length (drop u b) = omega (arith, length-drop u b) in
-    ap (λ t. set (set t u hi) (u + 1) lo) (sym (take-append-drop u b)) ∙ set_two (take u b) (drop u b) u hi lo m r ∙ simp drop-drop
 
 pub length_placed : (b : List ℕ) (u : ℕ) (p : List ℕ) → u + length p ≤ length b → length (placed b u p) ≡ length b
 length_placed b u p h = simp (length-append, length-take, length-drop) (omega arith)
@@ -45,8 +26,8 @@ placed_placed b u p q h =
 placed_none : (b : List ℕ) (u : ℕ) → b ≡ placed b u []
 placed_none b u = let e : u + 0 ≡ u = omega arith in sym (ap (λ n. take u b ++ drop n b) e ∙ take-append-drop u b)
 
-after_none : (o : Output) → o.used ≤ length o.bytes.now → After o o []
-after_none o h = record { used = omega arith; fits = omega arith; bytes = placed_none o.bytes.now o.used }
+after_none : (o : Output) → After o o []
+after_none o = record { used = omega arith; fits = omega arith; bytes = placed_none o.bytes.now o.used }
 
 after_then : {o o1 o2 : Output} {p q : List ℕ} → After o o1 p → After o1 o2 q → After o o2 (p ++ q)
 after_then {o} {o1} {o2} {p} {q} a b =
@@ -67,11 +48,8 @@ pub record Midway (o o' : Output) (left whole : List ℕ) : Type 0 where
   pub finished : o'.finished ≡ o.finished
   pub after : After o o' done
 
-pub begin : (o : Output) (whole : List ℕ) → o.used ≤ length o.bytes.now → Midway o o whole whole
-begin o whole h = record { done = []; joins = refl; lent = refl; len = refl; finished = refl; after = after_none o h }
-
-pub room : {o o' : Output} {left whole : List ℕ} → Midway o o' left whole → o'.used ≤ length o'.bytes.now
-room m = omega (arith, m.len, m.after.used, m.after.fits)
+pub begin : (o : Output) (whole : List ℕ) → Midway o o whole whole
+begin o whole = record { done = []; joins = refl; lent = refl; len = refl; finished = refl; after = after_none o }
 
 -- the same, with what is left said otherwise
 pub again : {o o' : Output} {left whole : List ℕ} → Midway o o' left whole → (left' : List ℕ) → left ≡ left' → Midway o o' left' whole

@@ -2,24 +2,32 @@
 use Rattle.std.proofs.Common.{◌≡◌, ℕ, suc, ◌+◌, ◌-◌, ◌*◌, ◌<◌, ◌≤◌, Bool, true, false, eqb, leb, List, Some, Ok, Err, Option, Result, sym, refl, ap, ◌∙◌, arith}
 use Rattle.std.proofs.lemmas.Bool.Decides.{nat_tests}
 use Rattle.spec.specs.Fields.{field, and_then}
-use Rattle.spec.specs.Meaning.{glyph_search, range_search}
+use Rattle.spec.specs.Meaning.{glyph_search, range_search, covered_by_glyphs}
+use Rattle.layout.specs.Headers.{range_of}
 
-module _ (bs : List ℕ) (g at i n : ℕ) (h : i < n) where
+module _ (bs : List ℕ) (g table i n : ℕ) (h : i < n) where
   left : n - i ≡ suc (n - (i + 1))
   left = omega arith
 
-  -- ---- glyphs: the step at glyph i of n
-  glyph_step : (r : Result ℕ ℕ) → r ≡ field bs (at + 2 * i)
-      → glyph_search bs g (at + 2 * i) i (n - i) ≡ and_then r (λ x. elim (eqb x g) [ true ↦ Ok (Some i) | false ↦ glyph_search bs g (at + 2 * i + 2) (i + 1) (n - (i + 1)) ])
-  glyph_step r p = ap (glyph_search bs g (at + 2 * i) i) left ∙ ap (λ z. and_then z (λ x. elim (eqb x g) [ true ↦ Ok (Some i) | false ↦ glyph_search bs g (at + 2 * i + 2) (i + 1) (n - (i + 1)) ])) (sym p)
+  -- the entries stand behind the two fields at the front of the table
+  abbrev at : ℕ
+  at = table + 4
 
-  pub glyph_fault : (e : ℕ) → Err e ≡ field bs (at + 2 * i) → glyph_search bs g (at + 2 * i) i (n - i) ≡ Err e
+  moved : (j k : ℕ) (r : Result ℕ ℕ) → j ≡ k → r ≡ field bs j → r ≡ field bs k
+  moved j k r e p = p ∙ ap (field bs) e
+
+  -- ---- glyphs: the step at glyph i of n
+  glyph_step : (r : Result ℕ ℕ) → r ≡ field bs (table + (4 + 2 * i))
+      → glyph_search bs g (at + 2 * i) i (n - i) ≡ and_then r (λ x. elim (eqb x g) [ true ↦ Ok (Some i) | false ↦ glyph_search bs g (at + 2 * i + 2) (i + 1) (n - (i + 1)) ])
+  glyph_step r p = ap (glyph_search bs g (at + 2 * i) i) left ∙ ap (λ z. and_then z (λ x. elim (eqb x g) [ true ↦ Ok (Some i) | false ↦ glyph_search bs g (at + 2 * i + 2) (i + 1) (n - (i + 1)) ])) (sym (moved (table + (4 + 2 * i)) (at + 2 * i) r (omega arith) p))
+
+  pub glyph_fault : (e : ℕ) → Err e ≡ field bs (table + (4 + 2 * i)) → glyph_search bs g (at + 2 * i) i (n - i) ≡ Err e
   glyph_fault e p = glyph_step (Err e) p
 
-  pub glyph_found : (x : ℕ) → Ok x ≡ field bs (at + 2 * i) → x ≡ g → glyph_search bs g (at + 2 * i) i (n - i) ≡ Ok (Some i)
+  pub glyph_found : (x : ℕ) → Ok x ≡ field bs (table + (4 + 2 * i)) → x ≡ g → glyph_search bs g (at + 2 * i) i (n - i) ≡ Ok (Some i)
   glyph_found x p q = glyph_step (Ok x) p ∙ grind (arith, nat_tests)
 
-  pub glyph_next : (x : ℕ) → Ok x ≡ field bs (at + 2 * i) → (x ≡ g → ⊥) → glyph_search bs g (at + 2 * i) i (n - i) ≡ glyph_search bs g (at + 2 * (i + 1)) (i + 1) (n - (i + 1))
+  pub glyph_next : (x : ℕ) → Ok x ≡ field bs (table + (4 + 2 * i)) → (x ≡ g → ⊥) → glyph_search bs g (at + 2 * i) i (n - i) ≡ glyph_search bs g (at + 2 * (i + 1)) (i + 1) (n - (i + 1))
   glyph_next x p q =
       let e : at + 2 * i + 2 ≡ at + 2 * (i + 1) = omega arith in
       glyph_step (Ok x) p ∙ (go (eqb x g) refl ∙ ap (λ k. glyph_search bs g k (i + 1) (n - (i + 1))) e)
@@ -42,50 +50,64 @@ module _ (bs : List ℕ) (g at i n : ℕ) (h : i < n) where
   abbrev by_start : ℕ → Result (Option (ℕ × ℕ)) ℕ
   by_start s = elim (leb s g) [ true ↦ and_then (field bs (at + 6 * i + 2)) (by_end s) | false ↦ rest ]
 
-  range_step : (r : Result ℕ ℕ) → r ≡ field bs (at + 6 * i) → range_search bs g (at + 6 * i) (n - i) ≡ and_then r by_start
-  range_step r p = ap (range_search bs g (at + 6 * i)) left ∙ ap (λ z. and_then z by_start) (sym p)
+  range_step : (r : Result ℕ ℕ) → r ≡ field bs (table + (4 + 6 * i)) → range_search bs g (at + 6 * i) (n - i) ≡ and_then r by_start
+  range_step r p = ap (range_search bs g (at + 6 * i)) left ∙ ap (λ z. and_then z by_start) (sym (moved (table + (4 + 6 * i)) (at + 6 * i) r (omega arith) p))
 
-  pub start_fault : (e : ℕ) → Err e ≡ field bs (at + 6 * i) → range_search bs g (at + 6 * i) (n - i) ≡ Err e
+  pub start_fault : (e : ℕ) → Err e ≡ field bs (table + (4 + 6 * i)) → range_search bs g (at + 6 * i) (n - i) ≡ Err e
   start_fault e p = range_step (Err e) p
 
   -- the start is not above the glyph
-  inside : (s : ℕ) (r : Result ℕ ℕ) → s ≤ g → r ≡ field bs (at + 6 * i + 2) → by_start s ≡ and_then r (by_end s)
+  inside : (s : ℕ) (r : Result ℕ ℕ) → s ≤ g → r ≡ field bs (table + (4 + 6 * i + 2)) → by_start s ≡ and_then r (by_end s)
   inside s r l p = go (leb s g) (grind (arith, nat_tests))
     where
       go : (b : Bool) → b ≡ true → ◌≡◌ {A = Result (Option (ℕ × ℕ)) ℕ} (elim b [ true ↦ and_then (field bs (at + 6 * i + 2)) (by_end s) | false ↦ rest ]) (and_then r (by_end s))
-      go true e = ap (λ z. and_then z (by_end s)) (sym p)
+      go true e = ap (λ z. and_then z (by_end s)) (sym (moved (table + (4 + 6 * i + 2)) (at + 6 * i + 2) r (omega arith) p))
       go false e = cc
 
-  pub end_fault : (s e : ℕ) → Ok s ≡ field bs (at + 6 * i) → s ≤ g → Err e ≡ field bs (at + 6 * i + 2) → range_search bs g (at + 6 * i) (n - i) ≡ Err e
+  pub end_fault : (s e : ℕ) → Ok s ≡ field bs (table + (4 + 6 * i)) → s ≤ g → Err e ≡ field bs (table + (4 + 6 * i + 2)) → range_search bs g (at + 6 * i) (n - i) ≡ Err e
   end_fault s e p l q = range_step (Ok s) p ∙ inside s (Err e) l q
 
   -- nor is its end below it
-  holds : (s e : ℕ) (r : Result ℕ ℕ) → g ≤ e → r ≡ field bs (at + 6 * i + 4) → by_end s e ≡ and_then r (λ x. Ok (Some (s, x)))
+  holds : (s e : ℕ) (r : Result ℕ ℕ) → g ≤ e → r ≡ field bs (table + (4 + 6 * i + 4)) → by_end s e ≡ and_then r (λ x. Ok (Some (s, x)))
   holds s e r l p = go (leb g e) (grind (arith, nat_tests))
     where
       go : (b : Bool) → b ≡ true → ◌≡◌ {A = Result (Option (ℕ × ℕ)) ℕ} (elim b [ true ↦ third s | false ↦ rest ]) (and_then r (λ x. Ok (Some (s, x))))
-      go true f = ap (λ z. and_then z (λ x. Ok (Some (s, x)))) (sym p)
+      go true f = ap (λ z. and_then z (λ x. Ok (Some (s, x)))) (sym (moved (table + (4 + 6 * i + 4)) (at + 6 * i + 4) r (omega arith) p))
       go false f = cc
 
-  pub third_fault : (s e k : ℕ) → Ok s ≡ field bs (at + 6 * i) → s ≤ g → Ok e ≡ field bs (at + 6 * i + 2) → g ≤ e → Err k ≡ field bs (at + 6 * i + 4) → range_search bs g (at + 6 * i) (n - i) ≡ Err k
+  pub third_fault : (s e k : ℕ) → Ok s ≡ field bs (table + (4 + 6 * i)) → s ≤ g → Ok e ≡ field bs (table + (4 + 6 * i + 2)) → g ≤ e → Err k ≡ field bs (table + (4 + 6 * i + 4)) → range_search bs g (at + 6 * i) (n - i) ≡ Err k
   third_fault s e k p l q m r = range_step (Ok s) p ∙ (inside s (Ok e) l q ∙ holds s e (Err k) m r)
 
-  pub range_found : (s e x : ℕ) → Ok s ≡ field bs (at + 6 * i) → s ≤ g → Ok e ≡ field bs (at + 6 * i + 2) → g ≤ e → Ok x ≡ field bs (at + 6 * i + 4) → range_search bs g (at + 6 * i) (n - i) ≡ Ok (Some (s, x))
+  pub range_found : (s e x : ℕ) → Ok s ≡ field bs (table + (4 + 6 * i)) → s ≤ g → Ok e ≡ field bs (table + (4 + 6 * i + 2)) → g ≤ e → Ok x ≡ field bs (table + (4 + 6 * i + 4)) → range_search bs g (at + 6 * i) (n - i) ≡ Ok (Some (s, x))
   range_found s e x p l q m r = range_step (Ok s) p ∙ (inside s (Ok e) l q ∙ holds s e (Ok x) m r)
 
   onward : rest ≡ range_search bs g (at + 6 * (i + 1)) (n - (i + 1))
   onward = let e : at + 6 * i + 6 ≡ at + 6 * (i + 1) = omega arith in ap (λ k. range_search bs g k (n - (i + 1))) e
 
-  pub start_above : (s : ℕ) → Ok s ≡ field bs (at + 6 * i) → g < s → range_search bs g (at + 6 * i) (n - i) ≡ range_search bs g (at + 6 * (i + 1)) (n - (i + 1))
+  pub start_above : (s : ℕ) → Ok s ≡ field bs (table + (4 + 6 * i)) → g < s → range_search bs g (at + 6 * i) (n - i) ≡ range_search bs g (at + 6 * (i + 1)) (n - (i + 1))
   start_above s p l = range_step (Ok s) p ∙ (go (leb s g) (grind (arith, nat_tests)) ∙ onward)
     where
       go : (b : Bool) → b ≡ false → ◌≡◌ {A = Result (Option (ℕ × ℕ)) ℕ} (elim b [ true ↦ and_then (field bs (at + 6 * i + 2)) (by_end s) | false ↦ rest ]) rest
       go true e = cc
       go false e = refl
 
-  pub end_below : (s e : ℕ) → Ok s ≡ field bs (at + 6 * i) → s ≤ g → Ok e ≡ field bs (at + 6 * i + 2) → e < g → range_search bs g (at + 6 * i) (n - i) ≡ range_search bs g (at + 6 * (i + 1)) (n - (i + 1))
+  pub end_below : (s e : ℕ) → Ok s ≡ field bs (table + (4 + 6 * i)) → s ≤ g → Ok e ≡ field bs (table + (4 + 6 * i + 2)) → e < g → range_search bs g (at + 6 * i) (n - i) ≡ range_search bs g (at + 6 * (i + 1)) (n - (i + 1))
   end_below s e p l q m = range_step (Ok s) p ∙ (inside s (Ok e) l q ∙ (go (leb g e) (grind (arith, nat_tests)) ∙ onward))
     where
       go : (b : Bool) → b ≡ false → ◌≡◌ {A = Result (Option (ℕ × ℕ)) ℕ} (elim b [ true ↦ third s | false ↦ rest ]) rest
       go true f = cc
       go false f = refl
+
+-- ---- a search begins at the first entry, once the count is read
+module _ (bs : List ℕ) (g table n : ℕ) (p : Ok n ≡ field bs (table + 2)) where
+  pub glyphs_begin : glyph_search bs g (table + 4 + 2 * 0) 0 (n - 0) ≡ covered_by_glyphs bs table g
+  glyphs_begin =
+      let e : table + 4 + 2 * 0 ≡ table + 4 = omega arith in
+      let k : n - 0 ≡ n = omega arith in
+      ap (λ a. glyph_search bs g a 0 (n - 0)) e ∙ ap (glyph_search bs g (table + 4) 0) k ∙ ap (λ r. and_then r (λ m. glyph_search bs g (table + 4) 0 m)) p
+
+  pub ranges_begin : range_search bs g (table + 4 + 6 * 0) (n - 0) ≡ range_of bs table g
+  ranges_begin =
+      let e : table + 4 + 6 * 0 ≡ table + 4 = omega arith in
+      let k : n - 0 ≡ n = omega arith in
+      ap (λ a. range_search bs g a (n - 0)) e ∙ ap (range_search bs g (table + 4)) k ∙ ap (λ r. and_then r (λ m. range_search bs g (table + 4) m)) p

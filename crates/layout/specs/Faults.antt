@@ -8,6 +8,8 @@ use Rattle.spec.specs.Coverage.{ranges, coverage_count}
 use Rattle.spec.specs.Classes.{span, shorter_as_array}
 use Rattle.spec.specs.Entries.{unsorted}
 use Rattle.spec.specs.Devices.{per_word, word}
+use Rattle.layout.specs.declared.shape.Shape.{Shape}
+use Rattle.layout.specs.declared.shape.Shape.TheVariants.{Array, Ranges}
 
 -- a device without a value, and one whose last size is above 65,535
 abbrev pub device_fault : ℕ → ℕ → Option Denial
@@ -28,9 +30,14 @@ Allows r fault n = MatchResult r (λ x. (fault ≡ None) × (x ≡ n)) (λ d. fa
 abbrev pub coverage_fault : List ℕ → Option Denial
 coverage_fault gs = cond (nat_lt 65536 (length gs) || nat_lt 65535 (coverage_count gs)) (Some (arises Word.too_many (length gs) Part.writer)) None
 
+-- a shape as its format and its count
+abbrev pub shaped : Shape → ℕ × ℕ
+shaped (Array n) = (1, n)
+shaped (Ranges n) = (2, n)
+
 -- the format and the count of a part without a fault, else its fault
-abbrev pub Shaped : Result (ℕ × ℕ) code_denial → Option Denial → ℕ → ℕ → Type 0
-Shaped r fault format count = MatchResult r (λ x. (fault ≡ None) × (x.0 ≡ format) × (x.1 ≡ count)) (λ d. fault ≡ Some (denial_of d))
+abbrev pub Shaped : Result Shape code_denial → Option Denial → ℕ → ℕ → Type 0
+Shaped r fault format count = MatchResult r (λ s. (fault ≡ None) × ((shaped s).0 ≡ format) × ((shaped s).1 ≡ count)) (λ d. fault ≡ Some (denial_of d))
 
 -- the count of a class definition
 abbrev pub class_count : List (ℕ × ℕ) → ℕ

@@ -1,6 +1,7 @@
 pub mod Writing
 pub mod Widths
 pub mod Headers
+pub mod DeltaFormats
 pub mod Faults
 pub mod Described
 pub mod Gathering

@@ -14,55 +14,48 @@ use crate::glyph_class::{
     GlyphClass, count_ranges, first_and_span, first_unsorted, write_array, write_ranges,
 };
 use crate::output::Output;
-use crate::reading::field_at;
-use crate::searches::find_range;
+use crate::reading::FontData;
+use crate::shape::Shape;
 use crate::write::{FontRead, FontWrite};
 use denials::denial::{Denial, Part, Word};
 
 // The class in an array of classes, the glyph of the first before them.
-fn class_in_array(bytes: &[u8], at: usize, glyph: u16) -> Result<u16, usize>
-    requires { at < 2 ^ 40 }
-    ensures { result ≡ class_by_array bytes.now at glyph }
+fn class_in_array(table: &FontData<'_>, glyph: u16) -> Result<u16, usize>
+    ensures { result ≡ class_by_array table.now.bytes.now table.now.at glyph }
 {
-    let start = field_at(bytes, at + 2)?;
+    let start = table.field(2)?;
     if start > glyph {
         return Ok(0);
     }
-    let count = field_at(bytes, at + 4)?;
+    let count = table.field(4)?;
     let place = glyph - start;
     if place >= count {
         return Ok(0);
     }
-    field_at(bytes, at + 6 + 2 * place as usize)
+    table.field(6 + 2 * u32::from(place))
 }
 
 // The class of a glyph in the table at a position, 0 if it is not listed.
 pub fn read_class(bytes: &[u8], at: u32, glyph: u16) -> Result<u16, usize>
     ensures { result ≡ class bytes.now at glyph }
 {
-    let at = at as usize;
-    match field_at(bytes, at)? {
-        1 => class_in_array(bytes, at, glyph),
-        2 => {
-            let count = field_at(bytes, at + 2)?;
-            match find_range(bytes, glyph, at + 4, count)? {
-                Some((_, class)) => Ok(class),
-                None => Ok(0),
-            }
-        }
-        _ => Err(at),
+    let table = FontData { bytes, at };
+    match table.field(0)? {
+        1 => class_in_array(&table, glyph),
+        2 => Ok(table.find_range(glyph)?.map_or(0, |(_, class)| class)),
+        _ => Err(at as usize),
     }
 }
 
 // Glyphs with their classes. They rise, and no class is 0.
-#[derive(Clone, Copy)]
+#[derive(Clone, Copy, Debug, PartialEq, Eq)]
 pub struct ClassDef<'a> {
     pub classes: &'a [GlyphClass],
 }
 
 impl ClassDef<'_> {
-    // Format and count, or why the table cannot be written: glyphs that do not rise, or a count above 65,535.
-    fn shape(&self) -> Result<(u16, u16), Denial>
+    // Its shape, or why the table cannot be written: glyphs that do not rise, or a count above 65,535.
+    fn shape(&self) -> Result<Shape, Denial>
         ensures { Shaped result (class_fault (listed self.now.classes.now)) (class_format (listed self.now.classes.now)) (class_count (listed self.now.classes.now)) }
     {
         if let Some(place) = first_unsorted(self.classes) {
@@ -70,15 +63,15 @@ impl ClassDef<'_> {
         }
         let (_, span) = first_and_span(self.classes);
         let ranges = count_ranges(self.classes);
-        let (format, count) = if 6 + 2 * span < 4 + 6 * ranges {
-            (1, span)
+        let is_array = 6 + 2 * span < 4 + 6 * ranges;
+        let count = if is_array { span } else { ranges };
+        let denial = Denial::new(Word::TooMany, count, Part::Writer);
+        let count = u16::try_from(count).map_err(|_| denial)?;
+        if is_array {
+            Ok(Shape::Array(count))
         } else {
-            (2, ranges)
-        };
-        if count > 65535 {
-            return Err(Denial::new(Word::TooMany, count, Part::Writer));
+            Ok(Shape::Ranges(count))
         }
-        Ok((format, count as u16))
     }
 }
 
@@ -92,13 +85,8 @@ impl<'a> FontWrite for ClassDef<'a> {
         ensures bound { result < 2 ^ 32 }
     {
         match self.shape() {
-            Ok((format, count)) => {
-                if format == 1 {
-                    6 + 2 * count as usize
-                } else {
-                    4 + 6 * count as usize
-                }
-            }
+            Ok(Shape::Array(count)) => 6 + 2 * usize::from(count),
+            Ok(Shape::Ranges(count)) => 4 + 6 * usize::from(count),
             Err(_) => 0,
         }
     }
@@ -106,14 +94,16 @@ impl<'a> FontWrite for ClassDef<'a> {
     fn write_into(&self, out: &mut Output<'_>) -> Result<(), Denial>
         ensures { Puts (class_fault (listed self.now.classes.now)) result out.old out.new (big_endian (table_fields (class_def (listed self.now.classes.now)))) }
     {
-        let (format, count) = self.shape()?;
-        if format == 1 {
-            let (first, _) = first_and_span(self.classes);
-            out.fields(&[1, first, count])?;
-            write_array(out, self.classes, first as usize, count as usize)
-        } else {
-            out.fields(&[2, count])?;
-            write_ranges(out, self.classes)
+        match self.shape()? {
+            Shape::Array(count) => {
+                let (first, _) = first_and_span(self.classes);
+                out.fields(&[1, first, count])?;
+                write_array(out, self.classes)
+            }
+            Shape::Ranges(count) => {
+                out.fields(&[2, count])?;
+                write_ranges(out, self.classes)
+            }
         }
     }
 }

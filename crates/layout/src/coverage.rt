@@ -11,8 +11,8 @@ ghost use Rattle.layout.specs.Described.{table_fields};
 
 use crate::gather::Gatherer;
 use crate::output::Output;
-use crate::reading::field_at;
-use crate::searches::{find_glyph, find_range};
+use crate::reading::FontData;
+use crate::shape::Shape;
 use crate::write::{FontRead, FontWrite};
 use denials::denial::{Denial, Part, Word};
 
@@ -38,8 +38,7 @@ fn count_ranges(glyphs: &[u16]) -> usize
 
 // Writes the ranges of the glyphs, each with the coverage index of its start.
 fn write_ranges(out: &mut Output<'_>, glyphs: &[u16]) -> Result<(), Denial>
-    requires glyphs_len_bound { length glyphs.now ≤ 65536 }
-    requires used_in_bounds { out.old.used ≤ length out.old.bytes.now }
+    requires { length glyphs.now ≤ 65536 }
     ensures { Wrote result out.old out.new (big_endian (range_fields 0 (glyph_ranges glyphs.now))) }
 {
     let mut gatherer = Gatherer::Empty;
@@ -62,34 +61,28 @@ fn write_ranges(out: &mut Output<'_>, glyphs: &[u16]) -> Result<(), Denial>
 pub fn read_coverage(bytes: &[u8], at: u32, glyph: u16) -> Result<Option<u32>, usize>
     ensures { result ≡ covered bytes.now at glyph }
 {
-    let at = at as usize;
-    match field_at(bytes, at)? {
-        1 => {
-            let count = field_at(bytes, at + 2)?;
-            find_glyph(bytes, glyph, at + 4, count)
-        }
+    let table = FontData { bytes, at };
+    match table.field(0)? {
+        1 => table.find_glyph(glyph),
         2 => {
-            let count = field_at(bytes, at + 2)?;
-            match find_range(bytes, glyph, at + 4, count)? {
-                Some((start, index)) => {
-                    Ok(Some(index as u32 + glyph.saturating_sub(start) as u32))
-                }
-                None => Ok(None),
-            }
+            let range = table.find_range(glyph)?;
+            Ok(range.map(|(start, index)| {
+                u32::from(index) + u32::from(glyph.saturating_sub(start))
+            }))
         }
-        _ => Err(at),
+        _ => Err(at as usize),
     }
 }
 
 // Glyphs, of which each is found at its place. They rise.
-#[derive(Clone, Copy)]
+#[derive(Clone, Copy, Debug, PartialEq, Eq)]
 pub struct CoverageTable<'a> {
     pub glyphs: &'a [u16],
 }
 
 impl CoverageTable<'_> {
-    // Format and count, or why the table cannot be written.
-    fn shape(&self) -> Result<(u16, u16), Denial>
+    // Its shape, or why the table cannot be written.
+    fn shape(&self) -> Result<Shape, Denial>
         ensures { Shaped result (coverage_fault self.now.glyphs.now) (coverage_format self.now.glyphs.now) (coverage_count self.now.glyphs.now) }
     {
         let glyphs = self.glyphs.len();
@@ -99,12 +92,10 @@ impl CoverageTable<'_> {
         }
         let ranges = count_ranges(self.glyphs);
         if 4 + 6 * ranges < 4 + 2 * glyphs {
-            return Ok((2, ranges as u16));
+            return Ok(Shape::Ranges(ranges as u16));
         }
-        if glyphs > 65535 {
-            return Err(denial);
-        }
-        Ok((1, glyphs as u16))
+        let count = u16::try_from(glyphs).map_err(|_| denial)?;
+        Ok(Shape::Array(count))
     }
 }
 
@@ -118,13 +109,8 @@ impl<'a> FontWrite for CoverageTable<'a> {
         ensures bound { result < 2 ^ 32 }
     {
         match self.shape() {
-            Ok((format, count)) => {
-                if format == 1 {
-                    4 + 2 * count as usize
-                } else {
-                    4 + 6 * count as usize
-                }
-            }
+            Ok(Shape::Array(count)) => 4 + 2 * usize::from(count),
+            Ok(Shape::Ranges(count)) => 4 + 6 * usize::from(count),
             Err(_) => 0,
         }
     }
@@ -132,12 +118,15 @@ impl<'a> FontWrite for CoverageTable<'a> {
     fn write_into(&self, out: &mut Output<'_>) -> Result<(), Denial>
         ensures { Puts (coverage_fault self.now.glyphs.now) result out.old out.new (big_endian (table_fields (coverage self.now.glyphs.now))) }
     {
-        let (format, count) = self.shape()?;
-        out.fields(&[format, count])?;
-        if format == 1 {
-            out.fields(self.glyphs)
-        } else {
-            write_ranges(out, self.glyphs)
+        match self.shape()? {
+            Shape::Array(count) => {
+                out.fields(&[1, count])?;
+                out.fields(self.glyphs)
+            }
+            Shape::Ranges(count) => {
+                out.fields(&[2, count])?;
+                write_ranges(out, self.glyphs)
+            }
         }
     }
 }

@@ -10,13 +10,13 @@ ghost use Rattle.layout.specs.Faults.{Allows, device_fault};
 ghost use Rattle.layout.specs.Described.{described};
 
 use crate::beside::read_beside;
-use crate::delta_words::{delta_format, widths, write_words};
+use crate::delta_words::{delta_format, write_words};
 use crate::output::Output;
 use crate::write::{FontRead, FontWrite};
 use denials::denial::{Denial, Part, Word};
 
 // Values for the pixel sizes from the first on, one a size.
-#[derive(Clone, Copy)]
+#[derive(Clone, Copy, Debug, PartialEq, Eq)]
 pub struct Device<'a> {
     pub first_size: u16,
     pub values: &'a [i8],
@@ -30,11 +30,8 @@ impl Device<'_> {
         if self.values.is_empty() {
             return Err(Denial::new(Word::BadDevice, 0, Part::Writer));
         }
-        let last = self.first_size as usize + (self.values.len() - 1);
-        if last > 65535 {
-            return Err(Denial::new(Word::BadDevice, 1, Part::Writer));
-        }
-        Ok(last as u16)
+        let last = usize::from(self.first_size) + (self.values.len() - 1);
+        u16::try_from(last).map_err(|_| Denial::new(Word::BadDevice, 1, Part::Writer))
     }
 }
 
@@ -47,13 +44,11 @@ impl<'a> FontWrite for Device<'a> {
         ensures value { result ≡ room (device_fault self.now.first_size (length self.now.values.now)) (device_fields (described self.now)) }
         ensures bound { result < 2 ^ 32 }
     {
-        match self.last_size() {
-            Ok(_) => {
-                let (_, per_word) = widths(delta_format(self.values));
-                6 + 2 * ((self.values.len() + per_word - 1) / per_word)
-            }
-            Err(_) => 0,
-        }
+        let Ok(_) = self.last_size() else {
+            return 0;
+        };
+        let per_word = delta_format(self.values).per_word() as usize;
+        6 + 2 * self.values.len().div_ceil(per_word)
     }
 
     fn write_into(&self, out: &mut Output<'_>) -> Result<(), Denial>
@@ -61,7 +56,7 @@ impl<'a> FontWrite for Device<'a> {
     {
         let last = self.last_size()?;
         let format = delta_format(self.values);
-        out.fields(&[self.first_size, last, format])?;
+        out.fields(&[self.first_size, last, format.number()])?;
         write_words(out, self.values, format)
     }
 }

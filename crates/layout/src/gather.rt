@@ -4,7 +4,7 @@ ghost use Rattle.std.specs.Prelude.{◌≡◌};
 ghost use Rattle.layout.specs.Gathering.{step};
 
 // Glyphs without a gap, all of one class.
-#[derive(Clone, Copy)]
+#[derive(Clone, Copy, Debug, PartialEq, Eq)]
 pub struct RangeRecord {
     pub start: u16,
     pub end: u16,
@@ -12,7 +12,7 @@ pub struct RangeRecord {
 }
 
 // No range yet, or the one that the next glyph may extend.
-#[derive(Clone, Copy)]
+#[derive(Clone, Copy, Debug, PartialEq, Eq)]
 pub enum Gatherer {
     Empty,
     Open(RangeRecord),

@@ -15,7 +15,7 @@ use crate::output::Output;
 use denials::denial::Denial;
 
 // A glyph with its class.
-#[derive(Clone, Copy)]
+#[derive(Clone, Copy, Debug, PartialEq, Eq)]
 pub struct GlyphClass {
     pub glyph: u16,
     pub class: u16,
@@ -59,33 +59,28 @@ pub(crate) fn first_and_span(classes: &[GlyphClass]) -> (u16, usize)
     ensures span { result.1 ≡ span_of (listed classes.now) }
     ensures bound { result.1 ≤ 65536 }
 {
-    let n = classes.len();
-    if n == 0 {
+    let (Some(first), Some(last)) = (classes.first(), classes.last()) else {
         return (0, 0);
-    }
-    let first = classes[0].glyph;
-    let last = classes[n - 1].glyph;
-    (first, last.saturating_sub(first) as usize + 1)
+    };
+    (
+        first.glyph,
+        usize::from(last.glyph.saturating_sub(first.glyph)) + 1,
+    )
 }
 
-// The class of a glyph if it stands at a place, else 0; and how many places it takes.
-fn class_here(classes: &[GlyphClass], place: usize, glyph: usize) -> (u16, usize)
-    ensures { result ≡ here (listed (drop place classes.now)) glyph }
+// The class of a glyph if it is the first listed, else 0; and those listed behind it.
+fn class_here(classes: &[GlyphClass], glyph: usize) -> (u16, &[GlyphClass])
+    ensures class { result.0 ≡ (here (listed classes.now) glyph).0 }
+    ensures behind { result.1.now ≡ drop (here (listed classes.now) glyph).1 classes.now }
 {
-    if place >= classes.len() {
-        return (0, 0);
-    }
-    let entry = classes[place];
-    if entry.glyph as usize == glyph {
-        (entry.class, 1)
-    } else {
-        (0, 0)
+    match classes.split_first() {
+        Some((entry, behind)) if usize::from(entry.glyph) == glyph => (entry.class, behind),
+        _ => (0, classes),
     }
 }
 
 // Writes the ranges, each with its class.
 pub(crate) fn write_ranges(out: &mut Output<'_>, classes: &[GlyphClass]) -> Result<(), Denial>
-    requires { out.old.used ≤ length out.old.bytes.now }
     ensures { Wrote result out.old out.new (big_endian (class_range_fields (ranges (listed classes.now)))) }
 {
     let mut gatherer = Gatherer::Empty;
@@ -103,23 +98,16 @@ pub(crate) fn write_ranges(out: &mut Output<'_>, classes: &[GlyphClass]) -> Resu
 }
 
 // Writes the class of each glyph of the span, 0 for those that are not listed.
-pub(crate) fn write_array(
-    out: &mut Output<'_>,
-    classes: &[GlyphClass],
-    first: usize,
-    span: usize,
-) -> Result<(), Denial>
-    requires rises { Rising (map (λ p. p.0) (listed classes.now)) }
-    requires first { first ≡ first_listed (listed classes.now) }
-    requires span { span ≡ span_of (listed classes.now) }
-    requires small { (first < 65536) × (span ≤ 65536) }
-    requires room { out.old.used ≤ length out.old.bytes.now }
+pub(crate) fn write_array(out: &mut Output<'_>, classes: &[GlyphClass]) -> Result<(), Denial>
+    requires { Rising (map (λ p. p.0) (listed classes.now)) }
     ensures { Wrote result out.old out.new (big_endian (class_array (listed classes.now))) }
 {
-    let mut place = 0;
-    for k in 0..span {
-        let (class, taken) = class_here(classes, place, first + k);
-        place += taken;
+    let (first, span) = first_and_span(classes);
+    let first = usize::from(first);
+    let mut left = classes;
+    for glyph in first..first + span {
+        let (class, behind) = class_here(left, glyph);
+        left = behind;
         out.field(class)?;
     }
     Ok(())

@@ -10,7 +10,7 @@ pub mod gather;
 pub mod glyph_class;
 pub mod output;
 pub mod reading;
-mod searches;
+mod shape;
 pub mod value;
 pub mod variation;
 pub mod write;

@@ -7,7 +7,7 @@ ghost use Rattle.layout.specs.Writing.{Wrote};
 ghost use Rattle.layout.specs.Present.{present};
 
 use crate::output::Output;
-use denials::denial::{Denial, Part, Word};
+use denials::denial::Denial;
 
 // The bit of each field: x and y placement, x and y advance, then their devices.
 const FIELDS: [u16; 8] = [0x01, 0x02, 0x04, 0x08, 0x10, 0x20, 0x40, 0x80];
@@ -24,12 +24,9 @@ pub fn encoded_size(format: u16) -> usize
 pub fn write_value(out: &mut Output<'_>, format: u16, fields: &[u16; 8]) -> Result<(), Denial>
     ensures { Wrote result out.old out.new (big_endian (present format fields.now)) }
 {
-    if out.used > out.bytes.len() {
-        return Err(Denial::new(Word::ShortOutput, out.used, Part::Writer));
-    }
-    for i in 0..8 {
-        if format / FIELDS[i] % 2 == 1 {
-            out.field(fields[i])?;
+    for (bit, value) in FIELDS.iter().zip(fields) {
+        if format & bit != 0 {
+            out.field(*value)?;
         }
     }
     Ok(())

@@ -4,12 +4,12 @@ ghost use Rattle.std.specs.Prelude.{◌≡◌, pos, None};
 ghost use Rattle.spec.specs.Devices.{variation_fields};
 ghost use Rattle.spec.specs.Meaning.{beside};
 
-use crate::beside::read_beside;
+use crate::beside::{VARIATION_INDEX, read_beside};
 use crate::output::Output;
 use crate::write::{FontRead, FontWrite};
 use denials::denial::Denial;
 
-#[derive(Clone, Copy)]
+#[derive(Clone, Copy, Debug, PartialEq, Eq)]
 pub struct VariationIndex {
     pub id: u32,
 }
@@ -24,9 +24,9 @@ impl FontWrite for VariationIndex {
     }
 
     fn write_into(&self, out: &mut Output<'_>) -> Result<(), Denial> {
-        let outer = (self.id / 65536) as u16;
-        let inner = (self.id % 65536) as u16;
-        out.fields(&[outer, inner, 0x8000])
+        let outer = (self.id >> 16) as u16;
+        let inner = (self.id & 0xFFFF) as u16;
+        out.fields(&[outer, inner, VARIATION_INDEX])
     }
 }
 

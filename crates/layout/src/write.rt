@@ -63,8 +63,5 @@ pub fn write_and_read<T: FontRead>(
 {
     write_part(part, bytes)?;
     part.reads_back();
-    match T::read(bytes, 0, question) {
-        Ok(answer) => Ok(answer),
-        Err(at) => Err(Denial::new(Word::BrokenTable, at, Part::Reader)),
-    }
+    T::read(bytes, 0, question).map_err(|at| Denial::new(Word::BrokenTable, at, Part::Reader))
 }

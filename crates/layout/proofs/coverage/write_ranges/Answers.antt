@@ -6,7 +6,7 @@ use Rattle.layout.proofs.coverage.write_ranges.Goals as goal
 use Rattle.layout.proofs.coverage.write_ranges.Goals.{in-Some+in_ok-fields, in_default}
 
 pub loop-glyph-init : goal.loop-glyph-init
-loop-glyph-init c = (again (begin c.args.out.now _ (omega arith)) _ (come_all index_of (λ g. (g, 0)) 0 c.args.glyphs.now), (refl, refl))
+loop-glyph-init c = (again (begin c.args.out.now _) _ (come_all index_of (λ g. (g, 0)) 0 c.args.glyphs.now), (refl, refl))
 
 pub loop-glyph-preserved : goal.loop-glyph-preserved
 loop-glyph-preserved c =

@@ -1,4 +1,4 @@
-use Rattle.std.proofs.Common.{refl, arith}
+use Rattle.std.proofs.Common.{refl}
 use Rattle.std.proofs.lemmas.Result.{err_from_is_err_and}
 use Rattle.layout.proofs.Places.{begin, again, fails, ends, last}
 use Rattle.layout.proofs.RangeWriting.{class_of, come_all, come_next, come_empty, come_open, writes_next, writes_same}
@@ -6,7 +6,7 @@ use Rattle.layout.proofs.glyph_class.write_ranges.Goals as goal
 use Rattle.layout.proofs.glyph_class.write_ranges.Goals.{in-Some+in_ok-fields, in_default}
 
 pub loop-entry-init : goal.loop-entry-init
-loop-entry-init c = again (begin c.args.out.now _ (omega arith)) _ (come_all class_of (λ e. (e.glyph, e.class)) (record { glyph = 0; class = 0 }) c.args.classes.now)
+loop-entry-init c = again (begin c.args.out.now _) _ (come_all class_of (λ e. (e.glyph, e.class)) (record { glyph = 0; class = 0 }) c.args.classes.now)
 
 pub loop-entry-preserved : goal.loop-entry-preserved
 loop-entry-preserved c = elim c.match-closed.branch [

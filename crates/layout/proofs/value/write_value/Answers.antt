@@ -1,23 +1,24 @@
-use Rattle.std.proofs.Common.{arith}
+use Rattle.std.proofs.Common.{inl, inr, rules}
 use Rattle.std.proofs.lemmas.Result.{err_from_is_err_and}
-use Rattle.layout.proofs.Places.{begin, again, more, same, fails, ends}
-use Rattle.layout.proofs.Values.{fields_all, fields_yes, fields_no, fields_done}
+use Rattle.layout.proofs.Places.{begin, again, more, fails, ends}
+use Rattle.layout.proofs.Values.{picked_all, picked_yes, picked_no, picked_end}
 use Rattle.layout.proofs.value.write_value.Goals as goal
-use Rattle.layout.proofs.value.write_value.Goals.{then-format-i-eq1+in_ok-field, else-format-i-eq1}
 
-pub loop-i-init : goal.loop-i-init
-loop-i-init c = again (begin c.args.out.now _ (omega arith)) _ (fields_all c.args.format c.args.fields.now)
+pub loop-bit-init : goal.loop-bit-init
+loop-bit-init c = again (begin c.args.out.now _) _ (picked_all c.args.format c.args.fields.now _ _ c.told-fields (search rules) (search rules))
 
-pub loop-i-preserved : goal.loop-i-preserved
-loop-i-preserved c = elim c.if-format-i-eq1.branch [
-  | then-format-i-eq1+in_ok-field w ↦ same (more c.loop-i.invariant _ _ (fields_yes c.args.format c.args.fields.now c.loop-i.i c.loop-i-test.true c.told-fields w.if-format-i-eq1.true) w.in_ok-field.ensures) w.out-is
-  | else-format-i-eq1 w ↦ same (again c.loop-i.invariant _ (fields_no c.args.format c.args.fields.now c.loop-i.i c.loop-i-test.true c.told-fields w.if-format-i-eq1.false)) w.out-is
-]
+pub loop-bit-preserved-in-Continue-1 : goal.loop-bit-preserved-in-Continue-1
+loop-bit-preserved-in-Continue-1 c = let s = c.in-Some.ensures.steps in
+    more c.loop-bit.invariant _ _ (picked_yes c.args.format _ _ _ _ _ _ s.0 s.1 c.if-format-bit-ne0.true) c.in_ok-field.ensures
+
+pub loop-bit-preserved : goal.loop-bit-preserved
+loop-bit-preserved c = let s = c.in-Some.ensures.steps in again c.loop-bit.invariant _ (picked_no c.args.format _ _ _ _ _ _ s.0 s.1 c.if-format-bit-ne0.false)
 
 pub returns-in_err-field : goal.returns-in_err-field
 returns-in_err-field c =
+    let s = c.in-Some.ensures.steps in
     let p = err_from_is_err_and c.from_residual.result c.from_residual.ensures.1 in
-    fails c.loop-i.invariant c.from_residual.result _ _ (fields_yes c.args.format c.args.fields.now c.loop-i.i c.loop-i-test.true c.told-fields c.if-format-i-eq1.true) c.in_err-field.ensures _ p.1 p.2
+    fails c.loop-bit.invariant c.from_residual.result _ _ (picked_yes c.args.format _ _ _ _ _ _ s.0 s.1 c.if-format-bit-ne0.true) c.in_err-field.ensures _ p.1 p.2
 
 pub returns : goal.returns
-returns c = ends c.loop-i.invariant (fields_done c.args.format c.args.fields.now c.loop-i.i c.loop-i-test.false c.told-fields)
+returns c = ends c.loop-bit.invariant (picked_end c.args.format _ _ (elim c.in-None.ensures.steps [ inl x ↦ inl x.1.0 | inr x ↦ inr x.1.0 ]))

@@ -1,14 +1,14 @@
-use Rattle.std.proofs.Common.{arith}
+use Rattle.std.proofs.Common.{◌+◌, ◌*◌, ap, ◌∙◌}
 use Rattle.layout.specs.Listing.{listed}
 use Rattle.layout.proofs.ClassDefs.{array_size, range_size}
 use Rattle.layout.proofs.class_def.ClassDefFontWrite.size.Goals as goal
 
-pub returns-then-format-eq1 : goal.returns-then-format-eq1
-returns-then-format-eq1 c =
-    let h = c.in-Ok.ensures in
-    record { value = array_size (listed c.args.self.now.classes.now) _ _ h.1 h.2 h.0 c.if-format-eq1.true; bound = omega arith }
+pub returns-in-Ok-Array-clause-value : goal.returns-in-Ok-Array-clause-value
+returns-in-Ok-Array-clause-value c =
+    let h = rw c.in-Ok-Array.field-0-is at c.in-Ok-Array.ensures in
+    ap (λ n. 6 + 2 * n) c.from.ensures ∙ array_size (listed c.args.self.now.classes.now) _ h.2 h.1 h.0
 
-pub returns-else-format-eq1 : goal.returns-else-format-eq1
-returns-else-format-eq1 c =
-    let h = c.in-Ok.ensures in
-    record { value = range_size (listed c.args.self.now.classes.now) _ _ h.1 h.2 h.0 c.if-format-eq1.false; bound = omega arith }
+pub returns-in-Ok-Ranges-clause-value : goal.returns-in-Ok-Ranges-clause-value
+returns-in-Ok-Ranges-clause-value c =
+    let h = rw c.in-Ok-Ranges.field-0-is at c.in-Ok-Ranges.ensures in
+    ap (λ n. 4 + 6 * n) c.from-in-Ok-Ranges.ensures ∙ range_size (listed c.args.self.now.classes.now) _ h.2 h.1 h.0

@@ -6,7 +6,7 @@ use Rattle.layout.proofs.Places.{begin, more, fails, ends}
 use Rattle.layout.proofs.output.Output.fields.Goals as goal
 
 pub loop-value-init : goal.loop-value-init
-loop-value-init c = begin c.args.self.now _ (omega arith)
+loop-value-init c = begin c.args.self.now _
 
 pub loop-value-preserved : goal.loop-value-preserved
 loop-value-preserved c = more c.loop-value.invariant _ _ (ap big_endian (drop_more c.args.values.now c.loop-value.value-index 0 (omega arith))) c.in_ok-field.ensures
