@@ -1,124 +1,91 @@
--- Cutting a line into words.
-use Rattle.std.proofs.Common.{◌≡◌, ℕ, ◌+◌, ◌-◌, ◌<◌, ◌≤◌, min, Bool, true, false, ◌&&◌, eqb, ltb, List, [], ◌∷◌, ◌++◌, length, get_or, take, drop, sym, refl, ap, ◌∙◌, ⊎_elim, append_assoc, append-nil, arith, rules, eq-eqb}
-use mathlib.Core.List.{map-append}
-use Rattle.std.proofs.lemmas.List.{same_lists, places, at_drop_more, at_drop_all, length-take, length-drop, take_all, take_rest, take_more, get_or-drop}
-use Rattle.std.proofs.lemmas.Bool.{cases_lt}
+-- Cutting a text into lines, and a line into words.
+use Rattle.std.proofs.Common.{◌≡◌, ℕ, ◌+◌, ◌<◌, Bool, true, false, cond, eqb, ltb, not, List, [], ◌∷◌, ◌++◌, length, map, take, Some, None, sym, refl, ap, ◌∙◌, append_assoc, append-nil, arith, suc}
 use Rattle.std.proofs.lemmas.Bool.Decides.{nat_tests}
-use Rattle.rulefile.specs.declared.words.Part.{Part}
-use Rattle.rulefile.specs.Words.{before_comment, flush, kept, name_byte, name_bytes, part_of, pieces_after, same_word, words_at}
+use Rattle.std.specs.Prelude.{filter, position}
+use Rattle.std.specs.List.{slice_split, onto_first, prefix_len}
+use Rattle.std.proofs.lemmas.List.{length-map}
+use Rattle.std.proofs.lemmas.List.Splits.{length-slice_split}
+use Rattle.rulefile.specs.Files.{lines_after, lines_of}
+use Rattle.rulefile.specs.Words.{before_comment, flush, pieces, pieces_after, same_word}
 
--- a part that is cut off at the list's end is the same part
-pub clipped : (bytes : List ℕ) (s e e' s' : ℕ) → e' ≡ min e (length bytes) → s' ≡ min s e' → take (e' - s') (drop s' bytes) ≡ take (e - s) (drop s bytes)
-clipped bytes s e e' s' p q = same_lists _ _ (search (rules, places)) (λ k d h. grind (arith, places))
+-- what has been read of the first part stands before it
+abbrev onto : List ℕ → List (List ℕ) → List (List ℕ)
+onto front [] = []
+onto front (part ∷ parts) = (front ++ part) ∷ parts
 
-flush_some : (w : List ℕ) → 0 < length w → flush w ≡ w ∷ []
-flush_some [] h = absurd (omega arith)
-flush_some (b ∷ bs) h = refl
+onto_nil : (parts : List (List ℕ)) → onto [] parts ≡ parts
+onto_nil [] = refl
+onto_nil (part ∷ parts) = refl
 
-flush_none : (w : List ℕ) → length w ≡ 0 → flush w ≡ []
-flush_none [] h = refl
-flush_none (b ∷ bs) h = absurd (omega arith)
+onto_onto : (front : List ℕ) (b : ℕ) (parts : List (List ℕ)) → 0 < length parts → onto (front ++ b ∷ []) parts ≡ onto front (onto_first b parts)
+onto_onto front b [] h = absurd (omega arith)
+onto_onto front b (part ∷ parts) h = ap (λ p. p ∷ parts) (append_assoc front (b ∷ []) part)
 
--- keeping a part adds the word that has come to its end
-kept_flush : (line : List ℕ) (start at : ℕ) → at ≤ length line → words_at line (kept start at) ≡ flush (take (at - start) (drop start line))
-kept_flush line start at h =
-    ⊎_elim
-    (λ (lt : start < at). let e : ltb start at ≡ true = grind (arith, nat_tests) in
-    ap (λ t. words_at line (elim t [ true ↦ record { start = start; end = at } ∷ [] | false ↦ [] ])) e
-    ∙ sym (flush_some (take (at - start) (drop start line)) (simp (length-take, length-drop) (omega arith))))
-    (λ (ge : at ≤ start). let e : ltb start at ≡ false = grind (arith, nat_tests) in
-    ap (λ t. words_at line (elim t [ true ↦ record { start = start; end = at } ∷ [] | false ↦ [] ])) e
-    ∙ sym (flush_none (take (at - start) (drop start line)) (simp (length-take, length-drop) (omega arith))))
-    (cases_lt start at)
+some_part : (p : ℕ → Bool) (bs : List ℕ) → 0 < length (slice_split p bs)
+some_part p bs = omega (arith, length-slice_split p bs)
 
-pieces_space : (w : List ℕ) (b : ℕ) (bs : List ℕ) → b ≡ 32 → pieces_after w (b ∷ bs) ≡ flush w ++ pieces_after [] bs
-pieces_space w b bs e = ap (λ t. elim t [ true ↦ flush w ++ pieces_after [] bs | false ↦ pieces_after (w ++ b ∷ []) bs ]) (eq-eqb b 32 e)
+line_step : (t : Bool) (front : List ℕ) (b : ℕ) (rest more : List (List ℕ)) (parts : List (List ℕ)) → 0 < length parts → rest ≡ onto [] parts → more ≡ onto (front ++ b ∷ []) parts → elim t [ true ↦ front ∷ rest | false ↦ more ] ≡ onto front (cond t ([] ∷ parts) (onto_first b parts))
+line_step true front b rest more parts some p q = ap (λ l. front ∷ l) (p ∙ onto_nil parts) ∙ ap (λ l. l ∷ parts) (sym (append-nil front))
+line_step false front b rest more parts some p q = q ∙ onto_onto front b parts some
 
-pieces_other : (w : List ℕ) (b : ℕ) (bs : List ℕ) → (b ≡ 32 → ⊥) → pieces_after w (b ∷ bs) ≡ pieces_after (w ++ b ∷ []) bs
-pieces_other w b bs ne =
-    let e : eqb b 32 ≡ false = grind (arith, nat_tests) in
-    ap (λ t. elim t [ true ↦ flush w ++ pieces_after [] bs | false ↦ pieces_after (w ++ b ∷ []) bs ]) e
+lines_split : (front text : List ℕ) → lines_after front text ≡ onto front (slice_split (λ b. eqb b 10) text)
+lines_split front [] = ap (λ l. l ∷ []) (sym (append-nil front))
+lines_split front (b ∷ bs) =
+    line_step (eqb b 10) front b (lines_after [] bs) (lines_after (front ++ b ∷ []) bs) (slice_split (λ b. eqb b 10) bs) (some_part (λ b. eqb b 10) bs)
+    (lines_split [] bs) (lines_split (front ++ b ∷ []) bs)
 
--- a space ends a word
-pub at_space : (line : List ℕ) (ps ps' : List Part) (start start' at : ℕ) {all : List (List ℕ)} → at < length line → get_or line at 0 ≡ 32 → start' ≡ at + 1 → ps' ≡ ps ++ kept start at → words_at line ps ++ pieces_after (take (at - start) (drop start line)) (drop at line) ≡ all → words_at line ps' ++ pieces_after (take (at + 1 - start') (drop start' line)) (drop (at + 1) line) ≡ all
-at_space line ps ps' start start' at h space next more inv =
-    let w : List ℕ = take (at - start) (drop start line) in
-    let rest : List (List ℕ) = pieces_after [] (drop (at + 1) line) in
-    let zero : at + 1 - start' ≡ 0 = omega arith in
-    ap (λ n. words_at line ps' ++ pieces_after (take n (drop start' line)) (drop (at + 1) line)) zero
-    ∙ ap (λ l. l ++ rest) (ap (words_at line) more ∙ map-append (part_of line) ps (kept start at) ∙ ap (λ l. words_at line ps ++ l) (kept_flush line start at (omega arith)))
-    ∙ append_assoc (words_at line ps) (flush w) rest
-    ∙ ap (λ l. words_at line ps ++ l) (sym (at_drop_more (pieces_after w) line at 0 h ∙ pieces_space w (get_or line at 0) (drop (at + 1) line) space))
-    ∙ inv
+-- the lines of a text are its parts between line ends
+pub parts_are_lines : (text : List ℕ) → slice_split (λ b. eqb b 10) text ≡ lines_of text
+parts_are_lines text = sym (lines_split [] text ∙ onto_nil (slice_split (λ b. eqb b 10) text))
 
--- any other byte goes on with it
-pub at_other : (line : List ℕ) (ps ps' : List Part) (start start' at : ℕ) {all : List (List ℕ)} → start ≤ at → at < length line → (get_or line at 0 ≡ 32 → ⊥) → start' ≡ start → ps' ≡ ps → words_at line ps ++ pieces_after (take (at - start) (drop start line)) (drop at line) ≡ all → words_at line ps' ++ pieces_after (take (at + 1 - start') (drop start' line)) (drop (at + 1) line) ≡ all
-at_other line ps ps' start start' at b h ne stays same inv =
-    let w : List ℕ = take (at - start) (drop start line) in
-    let long : at - start < length (drop start line) = simp length-drop (omega arith) in
-    let place : start + (at - start) ≡ at = omega arith in
-    let count : at + 1 - start ≡ at - start + 1 = omega arith in
-    let longer : take (at + 1 - start) (drop start line) ≡ w ++ get_or line at 0 ∷ [] =
-    ap (λ n. take n (drop start line)) count ∙ take_more (drop start line) (at - start) 0 long
-    ∙ ap (λ x. w ++ x ∷ []) (get_or-drop start line (at - start) 0 ∙ ap (λ n. get_or line n 0) place) in
-    ap (λ n. words_at line ps' ++ pieces_after (take (at + 1 - n) (drop n line)) (drop (at + 1) line)) stays
-    ∙ ap (λ l. words_at line l ++ pieces_after (take (at + 1 - start) (drop start line)) (drop (at + 1) line)) same
-    ∙ ap (λ l. words_at line ps ++ pieces_after l (drop (at + 1) line)) longer
-    ∙ ap (λ l. words_at line ps ++ l) (sym (at_drop_more (pieces_after w) line at 0 h ∙ pieces_other w (get_or line at 0) (drop (at + 1) line) ne))
-    ∙ inv
+abbrev pub not_empty : List ℕ → Bool
+not_empty w = not (eqb (length w) 0)
 
--- the line's end ends the last word
-pub at_end : (line : List ℕ) (ps ps' : List Part) (start at : ℕ) {all : List (List ℕ)} → at ≤ length line → length line ≤ at → ps' ≡ ps ++ kept start (length line) → words_at line ps ++ pieces_after (take (at - start) (drop start line)) (drop at line) ≡ all → words_at line ps' ≡ all
-at_end line ps ps' start at h all more inv =
-    let e : at ≡ length line = omega arith in
-    let w : List ℕ = take (at - start) (drop start line) in
-    ap (words_at line) more ∙ map-append (part_of line) ps (kept start (length line))
-    ∙ ap (λ l. words_at line ps ++ l) (kept_flush line start (length line) (omega arith) ∙ ap (λ n. flush (take (n - start) (drop start line))) (sym e) ∙ sym (at_drop_all (pieces_after w) line at all))
-    ∙ inv
+flush_front : (front : List ℕ) (parts : List (List ℕ)) → flush front ++ filter not_empty parts ≡ filter not_empty (front ∷ parts)
+flush_front [] parts = refl
+flush_front (b ∷ bs) parts =
+    let e : false ≡ eqb (length (b ∷ bs)) 0 = grind (arith, nat_tests) in
+    ap (λ t. cond (not t) ((b ∷ bs) ∷ filter not_empty parts) (filter not_empty parts)) e
 
--- one byte more of a name
-pub name_more : (word : List ℕ) (at : ℕ) {all : Bool} → at < length word → true ≡ name_byte (get_or word at 0) → name_bytes (drop at word) ≡ all → name_bytes (drop (at + 1) word) ≡ all
-name_more word at h e inv = ap (λ t. t && name_bytes (drop (at + 1) word)) e ∙ sym (at_drop_more name_bytes word at 0 h) ∙ inv
+piece_step : (t : Bool) (front : List ℕ) (b : ℕ) (rest more : List (List ℕ)) (parts : List (List ℕ)) → 0 < length parts → rest ≡ filter not_empty (onto [] parts) → more ≡ filter not_empty (onto (front ++ b ∷ []) parts) → elim t [ true ↦ flush front ++ rest | false ↦ more ] ≡ filter not_empty (onto front (cond t ([] ∷ parts) (onto_first b parts)))
+piece_step true front b rest more parts some p q =
+    ap (λ l. flush front ++ l) (p ∙ ap (filter not_empty) (onto_nil parts)) ∙ flush_front front parts ∙ ap (λ l. filter not_empty (l ∷ parts)) (sym (append-nil front))
+piece_step false front b rest more parts some p q = q ∙ ap (filter not_empty) (onto_onto front b parts some)
 
-pub name_stops : (word : List ℕ) (at : ℕ) {all : Bool} → at < length word → false ≡ name_byte (get_or word at 0) → name_bytes (drop at word) ≡ all → false ≡ all
-name_stops word at h e inv = ap (λ t. t && name_bytes (drop (at + 1) word)) e ∙ sym (at_drop_more name_bytes word at 0 h) ∙ inv
+pieces_split : (front line : List ℕ) → pieces_after front line ≡ filter not_empty (onto front (slice_split (λ b. eqb b 32) line))
+pieces_split front [] = sym (append-nil (flush front)) ∙ flush_front front [] ∙ ap (λ l. filter not_empty (l ∷ [])) (sym (append-nil front))
+pieces_split front (b ∷ bs) =
+    piece_step (eqb b 32) front b (pieces_after [] bs) (pieces_after (front ++ b ∷ []) bs) (slice_split (λ b. eqb b 32) bs) (some_part (λ b. eqb b 32) bs)
+    (pieces_split [] bs) (pieces_split (front ++ b ∷ []) bs)
 
-pub name_ends : (word : List ℕ) (at : ℕ) {all : Bool} → length word ≤ at → name_bytes (drop at word) ≡ all → true ≡ all
-name_ends word at h inv = sym (at_drop_all name_bytes word at h) ∙ inv
+abbrev pub no_comment : List ℕ → Bool
+no_comment w = not (same_word w (35 ∷ []))
 
-comment_is : (w : List ℕ) (ws : List (List ℕ)) → true ≡ same_word w (35 ∷ []) → before_comment (w ∷ ws) ≡ []
-comment_is w ws e = ap (λ t. elim t [ true ↦ [] | false ↦ w ∷ before_comment ws ]) (sym e)
+comment_step : (t : Bool) (w : List ℕ) (ws rest : List (List ℕ)) → take (prefix_len no_comment ws) ws ≡ rest → take (cond (not t) (1 + prefix_len no_comment ws) 0) (w ∷ ws) ≡ elim t [ true ↦ [] | false ↦ w ∷ rest ]
+comment_step true w ws rest e = refl
+comment_step false w ws rest e =
+    let n : ℕ = prefix_len no_comment ws in
+    let more : 1 + n ≡ suc n = omega arith in
+    ap (λ m. take m (w ∷ ws)) more ∙ ap (λ l. w ∷ l) e
 
-comment_not : (w : List ℕ) (ws : List (List ℕ)) → false ≡ same_word w (35 ∷ []) → before_comment (w ∷ ws) ≡ w ∷ before_comment ws
-comment_not w ws e = ap (λ t. elim t [ true ↦ [] | false ↦ w ∷ before_comment ws ]) (sym e)
+words_front : (ws : List (List ℕ)) → take (prefix_len no_comment ws) ws ≡ before_comment ws
+words_front [] = refl
+words_front (w ∷ ws) = comment_step (same_word w (35 ∷ [])) w ws (before_comment ws) (words_front ws)
 
--- the comment begins at this piece
-pub comment_here : (line : List ℕ) (parts : List Part) (at : ℕ) (d : Part) (w : List ℕ) {all : List (List ℕ)} → at < length parts → w ≡ part_of line (get_or parts at d) → true ≡ same_word w (35 ∷ []) → words_at line (take at parts) ++ before_comment (words_at line (drop at parts)) ≡ all → words_at line (take at parts) ≡ all
-comment_here line parts at d w h is e inv =
-    sym (append-nil (words_at line (take at parts)))
-    ∙ ap (λ l. words_at line (take at parts) ++ l) (sym (at_drop_more (λ l. before_comment (words_at line l)) parts at d h ∙ comment_is (part_of line (get_or parts at d)) (words_at line (drop (at + 1) parts)) (e ∙ ap (λ x. same_word x (35 ∷ [])) is)))
-    ∙ inv
+-- the words of a line are its parts between spaces that are not empty, up to a comment
+pub parts_are_words : (line : List ℕ) → (let ps = filter not_empty (slice_split (λ b. eqb b 32) line) in take (prefix_len no_comment ps) ps) ≡ before_comment (pieces line)
+parts_are_words line =
+    words_front (filter not_empty (slice_split (λ b. eqb b 32) line))
+    ∙ ap before_comment (sym (pieces_split [] line ∙ ap (filter not_empty) (onto_nil (slice_split (λ b. eqb b 32) line))))
 
--- this piece is a word
-pub comment_later : (line : List ℕ) (parts : List Part) (at : ℕ) (d : Part) (w : List ℕ) {all : List (List ℕ)} → at < length parts → w ≡ part_of line (get_or parts at d) → false ≡ same_word w (35 ∷ []) → words_at line (take at parts) ++ before_comment (words_at line (drop at parts)) ≡ all → words_at line (take (at + 1) parts) ++ before_comment (words_at line (drop (at + 1) parts)) ≡ all
-comment_later line parts at d w h is e inv =
-    let rest : List (List ℕ) = before_comment (words_at line (drop (at + 1) parts)) in
-    let word : List ℕ = part_of line (get_or parts at d) in
-    ap (λ l. words_at line l ++ rest) (take_more parts at d h)
-    ∙ ap (λ l. l ++ rest) (map-append (part_of line) (take at parts) (get_or parts at d ∷ []))
-    ∙ append_assoc (words_at line (take at parts)) (word ∷ []) rest
-    ∙ ap (λ l. words_at line (take at parts) ++ l) (sym (at_drop_more (λ l. before_comment (words_at line l)) parts at d h ∙ comment_not word (words_at line (drop (at + 1) parts)) (e ∙ ap (λ x. same_word x (35 ∷ [])) is)))
-    ∙ inv
+prefix_len-map : {X Y : Type 0} (test : Y → Bool) (f : X → Y) (xs : List X) → prefix_len test (map f xs) ≡ prefix_len (λ x. test (f x)) xs
+prefix_len-map test f [] = refl
+prefix_len-map test f (x ∷ xs) = ap (λ n. cond (test (f x)) (1 + n) 0) (prefix_len-map test f xs)
 
-pub comment_never : (line : List ℕ) (parts : List Part) (at : ℕ) {all : List (List ℕ)} → length parts ≤ at → words_at line (take at parts) ++ before_comment (words_at line (drop at parts)) ≡ all → words_at line (take (length parts) parts) ≡ all
-comment_never line parts at h inv =
-    ap (words_at line) (take_all (length parts) parts (omega arith) ∙ sym (take_all at parts h))
-    ∙ sym (append-nil (words_at line (take at parts)))
-    ∙ ap (λ l. words_at line (take at parts) ++ l) (sym (at_drop_all (λ l. before_comment (words_at line l)) parts at h))
-    ∙ inv
-
-pub front_is : (word : List ℕ) (count end : ℕ) → end ≡ min count (length word) → take (end - 0) word ≡ take count word
-front_is word count end e = same_lists _ _ (search (rules, places)) (λ k d h. grind (arith, places))
-
-pub rest_is : (word : List ℕ) (count start : ℕ) → start ≡ min count (length word) → take (length word - start) (drop start word) ≡ drop count word
-rest_is word count start e = take_rest word start ∙ same_lists _ _ (search (rules, places)) (λ k d h. grind (arith, places))
+-- the first that passes a test of what is seen of it
+pub position-map : {X Y : Type 0} (test : Y → Bool) (f : X → Y) (xs : List X) → position test (map f xs) ≡ position (λ x. test (f x)) xs
+position-map test f xs =
+    let p = prefix_len-map (λ y. not (test y)) f xs in
+    let l = length-map xs f in
+    ap (λ (n : ℕ). cond (ltb (prefix_len (λ y. not (test y)) (map f xs)) n) (Some (prefix_len (λ y. not (test y)) (map f xs))) None) l
+    ∙ ap (λ (n : ℕ). cond (ltb n (length xs)) (Some n) None) p

@@ -1,8 +1,5 @@
 pub mod Reading
 pub mod Cutting
-pub mod Finding
-pub mod Recording
+pub mod Spelling
 pub mod Listing
-pub mod Lines
-pub mod Counting
 pub mod Rising

@@ -15,10 +15,11 @@ use Rattle.rulefile.specs.Entries.{Said, said}
 use Rattle.rulefile.specs.Files.{File, Parsed, Rises, Within, afterwards, at_line, file_of, finished, lines_after, lines_from, lines_of, nothing, opened, parsed}
 use Rattle.rulefile.specs.Keywords.{keyword_of}
 use Rattle.rulefile.specs.Outcomes.{then}
-use Rattle.rulefile.specs.Statements.{lookup_of, store_of, word}
-use Rattle.rulefile.specs.Steps.{State, Told, and_names, and_says, before_lookup, entry_here, keyword_step, line_step, name_given, rule_here, statement_step}
+use Rattle.rulefile.specs.Names.{name_given}
+use Rattle.rulefile.specs.Statements.{lookup_of, store_of}
+use Rattle.rulefile.specs.Steps.{State, Told, and_names, and_says, before_lookup, entry_here, keyword_step, line_step, rule_here, statement_step}
 use Rattle.rulefile.specs.Storages.{storage_of}
-use Rattle.rulefile.specs.Words.{words_of}
+use Rattle.rulefile.specs.Words.{word, words_of}
 
 -- a mistake's line, where there is a mistake
 abbrev line_of : {X : Type 0} → Result X Mistake → ℕ

@@ -15,8 +15,7 @@ use Rattle.rulefile.specs.Lists.{delta_of, device_value_of, each, glyph_of}
 use Rattle.rulefile.specs.Names.{Named, place_of}
 use Rattle.rulefile.specs.Numbers.{unsigned_up_to}
 use Rattle.rulefile.specs.Outcomes.{wanted, then}
-use Rattle.rulefile.specs.Statements.{word}
-use Rattle.rulefile.specs.Words.{is_name}
+use Rattle.rulefile.specs.Words.{is_name, word}
 
 -- what a statement says; an entry is the place of its name among the names of the file
 pub data Said : Type 0 where

@@ -1,12 +1,12 @@
 -- The words that a line may begin with.
 use Rattle.std.specs.Prelude.{ℕ, cond, List, Some, None, codes, Option}
+use Rattle.std.specs.Option.{option_map, option_or}
 use Rattle.rulefile.specs.declared.keywords.Keyword.{Keyword}
 use Rattle.rulefile.specs.declared.keywords.Keyword.TheVariants.{Storage, Store, Lookup, Entry, Rule}
 use Rattle.rulefile.specs.declared.keywords.RuleKind.{RuleKind}
 use Rattle.rulefile.specs.declared.keywords.RuleKind.TheVariants.{Single, Pair, Class, Break, Build, Ask}
 use Rattle.rulefile.specs.declared.rules.EntryKind.{EntryKind}
 use Rattle.rulefile.specs.declared.rules.EntryKind.TheVariants.{Set, Device, Deltas}
-use Rattle.rulefile.specs.Outcomes.{first_some, mapped}
 use Rattle.rulefile.specs.Words.{same_word}
 
 -- the statements that stand before all others
@@ -35,4 +35,4 @@ rule_word w =
 
 -- the statement that a line's first word stands for
 abbrev pub keyword_of : List ℕ → Option Keyword
-keyword_of w = first_some (opening_word w) (first_some (mapped Entry (entry_word w)) (mapped Rule (rule_word w)))
+keyword_of w = option_or (option_or (opening_word w) (option_map Entry (entry_word w))) (option_map Rule (rule_word w))

@@ -9,16 +9,6 @@ abbrev pub wanted : {X : Type 0} → Option X → Fault → Result X Fault
 wanted None f = Err f
 wanted (Some x) f = Ok x
 
--- a value made from another, if that is there
-abbrev pub mapped : {X Y : Type 0} → (X → Y) → Option X → Option Y
-mapped f None = None
-mapped f (Some x) = Some (f x)
-
--- the first of two that is there
-abbrev pub first_some : {X : Type 0} → Option X → Option X → Option X
-first_some None o = o
-first_some (Some x) o = Some x
-
 -- go on with a value, or stay with what is wrong
 abbrev pub then : {X Y : Type 0} → Result X Fault → (X → Result Y Fault) → Result Y Fault
 then (Ok x) f = f x

@@ -1,5 +1,5 @@
 -- What a program asks of a file that was read.
-use Rattle.std.specs.Prelude.{ℕ, ◌+◌, Bool, false, cond, ◌||◌, List, [], ◌∷◌, Some, None, Option, ◌==◌}
+use Rattle.std.specs.Prelude.{ℕ, Bool, false, ◌||◌, List, Some, None, Option, ◌==◌, count_by}
 use Rattle.rulefile.specs.declared.rules.Metric.{Metric}
 use Rattle.rulefile.specs.declared.rules.Record.{Record}
 use Rattle.rulefile.specs.declared.rules.Records.{Records}
@@ -87,5 +87,4 @@ using_entry e t = statement_uses t.says e
 
 -- how many of a list pass a test
 abbrev pub how_many : {X : Type 0} → (X → Bool) → List X → ℕ
-how_many test [] = 0
-how_many test (x ∷ xs) = cond (test x) 1 0 + how_many test xs
+how_many test xs = count_by test xs

@@ -1,5 +1,6 @@
 -- What the words of a record stand for.
-use Rattle.std.specs.Prelude.{ℕ, ◌+◌, true, false, cond, List, [], ◌∷◌, length, take, drop, Some, None, Ok, Err, codes, Option, Result, nat_lt, slice_range}
+use Rattle.std.specs.Prelude.{ℕ, ◌+◌, true, false, cond, List, [], ◌∷◌, take, drop, ℤ, Some, None, Ok, Err, codes, Option, Result, position}
+use Rattle.std.specs.Option.{option_map, option_map_or}
 use Rattle.rulefile.specs.declared.fault.Fault.{Fault}
 use Rattle.rulefile.specs.declared.fault.Fault.TheVariants as fault
 use Rattle.rulefile.specs.declared.rules.Metric.{Metric}
@@ -7,11 +8,10 @@ use Rattle.rulefile.specs.declared.rules.MetricKind.{MetricKind}
 use Rattle.rulefile.specs.declared.rules.MetricKind.TheVariants.{XAdvance, YAdvance, XPlacement, YPlacement}
 use Rattle.rulefile.specs.declared.rules.Record.{Record}
 use Rattle.rulefile.specs.declared.rules.Records.{Records}
-use Rattle.rulefile.specs.declared.rules.Reference.{Reference}
 use Rattle.rulefile.specs.Names.{Named, reference_of}
 use Rattle.rulefile.specs.Numbers.{signed_up_to}
 use Rattle.rulefile.specs.Outcomes.{wanted, then, word_by_word}
-use Rattle.rulefile.specs.Words.{cut_at, first_from, position, same_word}
+use Rattle.rulefile.specs.Words.{cut_at, same_word}
 
 -- the metric that a key names
 abbrev pub metric_kind_of : List ℕ → Option MetricKind
@@ -21,17 +21,28 @@ metric_kind_of key =
     (cond (same_word key (codes "xpla")) (Some XPlacement)
     (cond (same_word key (codes "ypla")) (Some YPlacement) None)))
 
--- what stands beside a default: nothing, or @ and a device or a delta list
-abbrev pub beside_of : List Named → List ℕ → Result (Option Reference) Fault
-beside_of es [] = Ok None
-beside_of es (b ∷ bs) = then (reference_of es bs) (λ r. Ok (Some r))
+-- the metric that a key has to name
+abbrev pub wanted_metric : List ℕ → Result MetricKind Fault
+wanted_metric key = wanted (metric_kind_of key) fault.Metric
+
+-- V
+abbrev pub default_of : List ℕ → Result ℤ Fault
+default_of w = wanted (signed_up_to 32767 w) fault.MetricValue
+
+-- V with nothing beside it
+abbrev pub metric_alone : List ℕ → Result Metric Fault
+metric_alone w = then (default_of w) (λ v. Ok (record { default = v; beside = None }))
+
+-- V and a device or a delta list beside it
+abbrev pub metric_beside : List Named → List ℕ → List ℕ → Result Metric Fault
+metric_beside es value reference =
+    then (default_of value) (λ v.
+    then (reference_of es reference) (λ r.
+    Ok (record { default = v; beside = Some r })))
 
 -- V or V@REF
 abbrev pub metric_value : List Named → List ℕ → Result Metric Fault
-metric_value es w =
-    then (wanted (signed_up_to 32767 (take (position 64 w) w)) fault.MetricValue) (λ v.
-    then (beside_of es (drop (position 64 w) w)) (λ b.
-    Ok (record { default = v; beside = b })))
+metric_value es w = cut_at 64 w (metric_beside es) (metric_alone w)
 
 -- no metric at all
 abbrev pub no_metric : Record
@@ -52,17 +63,13 @@ with_metric r YPlacement m = once r.y_placement (record { x_advance = r.x_advanc
 -- the record with one metric more, from its key and its value
 abbrev pub put_metric : List Named → Record → List ℕ → List ℕ → Result Record Fault
 put_metric es r key value =
-    then (wanted (metric_kind_of key) fault.Metric) (λ k.
+    then (wanted_metric key) (λ k.
     then (metric_value es value) (λ m.
     with_metric r k m))
 
 -- the record with the metric of a word more: KEY=V or KEY=V@REF
 abbrev pub added : List Named → Record → List ℕ → Result Record Fault
 added es r w = cut_at 61 w (put_metric es r) (Err fault.Metric)
-
--- the words from a place up to another
-abbrev pub words_between : List (List ℕ) → ℕ → ℕ → List (List ℕ)
-words_between ws from to = slice_range ws from to
 
 -- metric by metric
 abbrev pub metrics_from : List Named → Record → List (List ℕ) → Result Record Fault
@@ -74,18 +81,21 @@ record_of es [] = Err fault.NoRecord
 record_of es (w ∷ []) = elim (same_word w (codes "-")) [ true ↦ Ok no_metric | false ↦ metrics_from es no_metric (w ∷ []) ]
 record_of es (w ∷ v ∷ ws) = metrics_from es no_metric (w ∷ v ∷ ws)
 
--- the place of the first `/` of the words that begin at the place `at`
-abbrev pub slash_from : ℕ → List (List ℕ) → ℕ
-slash_from at ws = first_from (λ w. same_word w (codes "/")) at ws
+-- what stands before and after the first `/`, if there is one
+abbrev pub split_at_slash : List (List ℕ) → Option (List (List ℕ) × List (List ℕ))
+split_at_slash ws = option_map (λ at. (take at ws, drop (at + 1) ws)) (position (λ w. same_word w (codes "/")) ws)
 
--- the second record stands after the `/`; without one it has no metric
-abbrev pub second_record : List Named → List (List ℕ) → ℕ → Result Record Fault
-second_record es ws slash =
-    cond (nat_lt slash (length ws)) (record_of es (words_between ws (slash + 1) (length ws))) (Ok no_metric)
+-- one record; the second has no metric
+abbrev pub one_record : List Named → List (List ℕ) → Result Records Fault
+one_record es ws = then (record_of es ws) (λ a. Ok (record { first = a; second = no_metric }))
 
--- one record, or two with `/` between, from the word at the place `from` on
-abbrev pub records_of : List Named → List (List ℕ) → ℕ → Result Records Fault
-records_of es ws from =
-    then (record_of es (words_between ws from (slash_from from (drop from ws)))) (λ a.
-    then (second_record es ws (slash_from from (drop from ws))) (λ b.
+-- two records
+abbrev pub two_records : List Named → List (List ℕ) → List (List ℕ) → Result Records Fault
+two_records es first second =
+    then (record_of es first) (λ a.
+    then (record_of es second) (λ b.
     Ok (record { first = a; second = b })))
+
+-- one record, or two with `/` between
+abbrev pub records_of : List Named → List (List ℕ) → Result Records Fault
+records_of es ws = option_map_or (λ p. two_records es p.0 p.1) (split_at_slash ws) (one_record es ws)

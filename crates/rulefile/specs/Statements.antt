@@ -1,5 +1,5 @@
 -- What the words of a statement stand for.
-use Rattle.std.specs.Prelude.{ℕ, ◌+◌, cond, List, [], length, Some, None, Ok, Err, codes, Option, Result, nat_lt, slice_index_or}
+use Rattle.std.specs.Prelude.{ℕ, cond, List, [], ◌∷◌, drop, Some, None, Ok, Err, codes, Option, Result}
 use Rattle.std.specs.Option.{unwrap_or}
 use Rattle.rulefile.specs.declared.fault.Fault.{Fault}
 use Rattle.rulefile.specs.declared.fault.Fault.TheVariants as fault
@@ -16,26 +16,23 @@ use Rattle.rulefile.specs.Lists.{glyph_of}
 use Rattle.rulefile.specs.Names.{Named, set_reference_of}
 use Rattle.rulefile.specs.Numbers.{unsigned_up_to}
 use Rattle.rulefile.specs.Outcomes.{wanted, then}
-use Rattle.rulefile.specs.Records.{record_of, records_of, words_between}
-use Rattle.rulefile.specs.Words.{same_word}
+use Rattle.rulefile.specs.Records.{record_of, records_of}
+use Rattle.rulefile.specs.Words.{same_word, word}
 
--- the words of a line, and the word at a place, which is empty past the last
-abbrev pub word : List (List ℕ) → ℕ → List ℕ
-word ws at = slice_index_or ws at []
+-- KEY N at the front of the words, or nothing
+abbrev pub option_of : List (List ℕ) → List ℕ → Fault → Result (Option ℕ) Fault
+option_of ws key f =
+    cond (same_word (word ws 0) key) (then (wanted (unsigned_up_to 65535 (word ws 1)) f) (λ n. Ok (Some n))) (Ok None)
 
--- KEY N at a place, or nothing
-abbrev pub option_at : List (List ℕ) → ℕ → List ℕ → Fault → Result (Option ℕ) Fault
-option_at ws at key f =
-    cond (same_word (word ws at) key) (then (wanted (unsigned_up_to 65535 (word ws (at + 1))) f) (λ n. Ok (Some n))) (Ok None)
+-- the words after it
+abbrev pub after_option : Option ℕ → List (List ℕ) → List (List ℕ)
+after_option None ws = ws
+after_option (Some n) ws = drop 2 ws
 
--- the place after it
-abbrev pub past : ℕ → Option ℕ → ℕ
-past at None = at
-past at (Some n) = at + 2
-
--- no word stands at the place or after it
-abbrev pub no_more : List (List ℕ) → ℕ → Result (Unit {0}) Fault
-no_more ws at = cond (nat_lt at (length ws)) (Err fault.Extra) (Ok tt)
+-- the statement has no more words
+abbrev pub no_more : List (List ℕ) → Result (Unit {0}) Fault
+no_more [] = Ok tt
+no_more (w ∷ ws) = Err fault.Extra
 
 -- the kind of a lookup
 abbrev pub lookup_kind_of : List ℕ → Result LookupKind Fault
@@ -47,24 +44,27 @@ abbrev pub lookup_of : List (List ℕ) → Result Lookup Fault
 lookup_of ws =
     then (lookup_kind_of (word ws 1)) (λ k.
     then (wanted (unsigned_up_to 4294967295 (word ws 2)) fault.Flags) (λ flags.
-    then (option_at ws 3 (codes "markset") fault.MarkSet) (λ n.
-    then (no_more ws (past 3 n)) (λ _.
+    then (option_of (drop 3 ws) (codes "markset") fault.MarkSet) (λ n.
+    then (no_more (after_option n (drop 3 ws))) (λ _.
     Ok (record { kind = k; flags = flags; mark_set = n })))))
+
+-- the kind of a store
+abbrev pub store_kind_of : List ℕ → Result StoreKind Fault
+store_kind_of w =
+    cond (same_word w (codes "flat")) (Ok store.Flat)
+    (cond (same_word w (codes "sharing")) (Ok store.Sharing)
+    (cond (same_word w (codes "trim+flat")) (Ok store.TrimFlat)
+    (cond (same_word w (codes "trim+sharing")) (Ok store.TrimSharing) (Err fault.StoreKind))))
 
 -- store KIND
 abbrev pub store_of : List (List ℕ) → Result StoreKind Fault
-store_of ws =
-    then (no_more ws 2) (λ _.
-    cond (same_word (word ws 1) (codes "flat")) (Ok store.Flat)
-    (cond (same_word (word ws 1) (codes "sharing")) (Ok store.Sharing)
-    (cond (same_word (word ws 1) (codes "trim+flat")) (Ok store.TrimFlat)
-    (cond (same_word (word ws 1) (codes "trim+sharing")) (Ok store.TrimSharing) (Err fault.StoreKind)))))
+store_of ws = then (no_more (drop 2 ws)) (λ _. store_kind_of (word ws 1))
 
 -- single GLYPH RECORD
 abbrev pub single_of : List Named → List (List ℕ) → Result Statement Fault
 single_of es ws =
     then (glyph_of (word ws 1)) (λ g.
-    then (record_of es (words_between ws 2 (length ws))) (λ r.
+    then (record_of es (drop 2 ws)) (λ r.
     Ok (statement.Single g r)))
 
 -- pair GLYPH GLYPH RECORD [/ RECORD]
@@ -72,7 +72,7 @@ abbrev pub pair_of : List Named → List (List ℕ) → Result Statement Fault
 pair_of es ws =
     then (glyph_of (word ws 1)) (λ a.
     then (glyph_of (word ws 2)) (λ b.
-    then (records_of es ws 3) (λ r.
+    then (records_of es (drop 3 ws)) (λ r.
     Ok (statement.Pair a b r))))
 
 -- class SET SET RECORD [/ RECORD]
@@ -80,7 +80,7 @@ abbrev pub class_of : List Named → List (List ℕ) → Result Statement Fault
 class_of es ws =
     then (set_reference_of es (word ws 1)) (λ a.
     then (set_reference_of es (word ws 2)) (λ b.
-    then (records_of es ws 3) (λ r.
+    then (records_of es (drop 3 ws)) (λ r.
     Ok (statement.Class a b r))))
 
 -- a question has one glyph in a single lookup, two in a pair lookup
@@ -94,11 +94,11 @@ past_second None = 2
 past_second (Some g) = 3
 
 -- [ppem P] [region R] and no more: without a size it is 0
-abbrev pub asked_of : List (List ℕ) → ℕ → Result Asked Fault
-asked_of ws at =
-    then (option_at ws at (codes "ppem") fault.PixelSize) (λ p.
-    then (option_at ws (past at p) (codes "region") fault.Region) (λ r.
-    then (no_more ws (past (past at p) r)) (λ _.
+abbrev pub asked_of : List (List ℕ) → Result Asked Fault
+asked_of ws =
+    then (option_of ws (codes "ppem") fault.PixelSize) (λ p.
+    then (option_of (after_option p ws) (codes "region") fault.Region) (λ r.
+    then (no_more (after_option r (after_option p ws))) (λ _.
     Ok (record { ppem = unwrap_or p 0; region = r }))))
 
 -- ask GLYPH [GLYPH] [ppem P] [region R]
@@ -106,5 +106,5 @@ abbrev pub question_of : LookupKind → List (List ℕ) → Result Question Faul
 question_of k ws =
     then (glyph_of (word ws 1)) (λ a.
     then (second_of k ws) (λ b.
-    then (asked_of ws (past_second b)) (λ q.
+    then (asked_of (drop (past_second b) ws)) (λ q.
     Ok (record { first = a; second = b; ppem = q.ppem; region = q.region }))))

@@ -1,5 +1,5 @@
 -- What the lines of a file say one after another.
-use Rattle.std.specs.Prelude.{ℕ, Bool, cond, List, [], ◌∷◌, ◌++◌, map, length, is_some, Some, None, Ok, Err, vec_items, Option, Result, ◌==◌}
+use Rattle.std.specs.Prelude.{ℕ, Bool, cond, List, [], ◌∷◌, ◌++◌, map, length, drop, is_some, Some, None, Ok, Err, vec_items, Option, Result, ◌==◌}
 use Rattle.rulefile.specs.declared.fault.Fault.{Fault}
 use Rattle.rulefile.specs.declared.fault.Fault.TheVariants as fault
 use Rattle.rulefile.specs.declared.keywords.Keyword.{Keyword}
@@ -18,11 +18,11 @@ use Rattle.rulefile.specs.declared.rules.Storage.{Storage}
 use Rattle.rulefile.specs.declared.rules.StoreKind.{StoreKind}
 use Rattle.rulefile.specs.Entries.{Said, entry_of, fresh_name, said}
 use Rattle.rulefile.specs.Keywords.{keyword_of}
-use Rattle.rulefile.specs.Names.{Named, named}
+use Rattle.rulefile.specs.Names.{Named, name_given, names_in}
 use Rattle.rulefile.specs.Outcomes.{then}
-use Rattle.rulefile.specs.Statements.{class_of, lookup_of, no_more, pair_of, question_of, single_of, store_of, word}
+use Rattle.rulefile.specs.Statements.{class_of, lookup_of, no_more, pair_of, question_of, single_of, store_of}
 use Rattle.rulefile.specs.Storages.{storage_of}
-use Rattle.rulefile.specs.Words.{words_of}
+use Rattle.rulefile.specs.Words.{word, words_of}
 
 -- what a line says, with its number
 pub record Told : Type 0 where
@@ -47,7 +47,7 @@ state_of p = record {
   storage = p.storage;
   store = p.store;
   lookup = p.lookup;
-  entries = map named (vec_items p.entries);
+  entries = names_in p.names;
   statements = map told (vec_items p.statements);
 }
 
@@ -84,8 +84,8 @@ rule_of es kind.Single rule.Pair ws = Err fault.PairOnly
 rule_of es kind.Pair rule.Pair ws = pair_of es ws
 rule_of es kind.Single rule.Class ws = Err fault.PairOnly
 rule_of es kind.Pair rule.Class ws = class_of es ws
-rule_of es k rule.Break ws = then (no_more ws 1) (λ _. Ok statement.Break)
-rule_of es k rule.Build ws = then (no_more ws 1) (λ _. Ok statement.Build)
+rule_of es k rule.Break ws = then (no_more (drop 1 ws)) (λ _. Ok statement.Break)
+rule_of es k rule.Build ws = then (no_more (drop 1 ws)) (λ _. Ok statement.Build)
 rule_of es k rule.Ask ws = then (question_of k ws) (λ q. Ok (statement.Ask q))
 
 -- the state with one statement more
@@ -107,10 +107,6 @@ and_names s e = record {
   entries = s.entries ++ e ∷ [];
   statements = s.statements;
 }
-
--- a name of a kind that the line n gives
-abbrev pub name_given : EntryKind → ℕ → List ℕ → Named
-name_given k n w = record { kind = k; line = n; name = w }
 
 -- every statement but `storage` and `store` stands after `lookup`
 abbrev pub in_lookup : {X : Type 0} → Option Lookup → (LookupKind → Result X Fault) → Result X Fault

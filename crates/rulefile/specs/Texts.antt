@@ -1,7 +1,19 @@
--- How a mistake is said to whoever wrote the file.
-use Rattle.std.specs.Prelude.{ℕ, List, codes}
+-- How a mistake is said to whoever wrote the file, and the words for kinds.
+use Rattle.std.specs.Prelude.{ℕ, List, ◌++◌, codes}
+use Rattle.std.specs.Fmt.{decimal}
 use Rattle.rulefile.specs.declared.fault.Fault.{Fault}
 use Rattle.rulefile.specs.declared.fault.Fault.TheVariants as fault
+use Rattle.rulefile.specs.declared.rules.EntryKind.{EntryKind}
+use Rattle.rulefile.specs.declared.rules.EntryKind.TheVariants as entry
+use Rattle.rulefile.specs.declared.rules.Error.{Error}
+use Rattle.rulefile.specs.declared.rules.Error.TheVariants.{Memory, Wrong}
+use Rattle.rulefile.specs.declared.rules.LookupKind.{LookupKind}
+use Rattle.rulefile.specs.declared.rules.LookupKind.TheVariants as lookup
+use Rattle.rulefile.specs.declared.rules.Mistake.{Mistake}
+use Rattle.rulefile.specs.declared.rules.StatementKind.{StatementKind}
+use Rattle.rulefile.specs.declared.rules.StatementKind.TheVariants as statement
+use Rattle.rulefile.specs.declared.rules.StoreKind.{StoreKind}
+use Rattle.rulefile.specs.declared.rules.StoreKind.TheVariants as store
 
 -- one sentence for each fault
 abbrev pub text_of : Fault → List ℕ
@@ -35,3 +47,42 @@ text_of fault.NameOfSet = codes "this is the name of a set: a device or a delta 
 text_of fault.NotSet = codes "a set is wanted here: its name, or #N with N from 0 to 65535"
 text_of fault.PixelSize = codes "after `ppem` comes a number from 0 to 65535"
 text_of fault.Region = codes "after `region` comes a number from 0 to 65535"
+
+-- LINE: text
+abbrev pub mistake_text : Mistake → List ℕ
+mistake_text m = decimal m.line ++ codes ": " ++ text_of m.fault
+
+-- why a file is not read
+abbrev pub error_text : Error → List ℕ
+error_text Memory = codes "there is not enough memory"
+error_text (Wrong m) = mistake_text m
+
+-- the word by which a rule file says a kind of name
+abbrev pub entry_text : EntryKind → List ℕ
+entry_text entry.Set = codes "set"
+entry_text entry.Device = codes "device"
+entry_text entry.Deltas = codes "deltas"
+
+-- the same of a kind of lookup
+abbrev pub lookup_text : LookupKind → List ℕ
+lookup_text lookup.Single = codes "single"
+lookup_text lookup.Pair = codes "pair"
+
+-- the same of a kind of store
+abbrev pub store_text : StoreKind → List ℕ
+store_text store.Flat = codes "flat"
+store_text store.Sharing = codes "sharing"
+store_text store.TrimFlat = codes "trim+flat"
+store_text store.TrimSharing = codes "trim+sharing"
+
+-- the same of a kind of statement
+abbrev pub statement_text : StatementKind → List ℕ
+statement_text statement.Set = codes "set"
+statement_text statement.Device = codes "device"
+statement_text statement.Deltas = codes "deltas"
+statement_text statement.Single = codes "single"
+statement_text statement.Pair = codes "pair"
+statement_text statement.Class = codes "class"
+statement_text statement.Break = codes "break"
+statement_text statement.Build = codes "build"
+statement_text statement.Ask = codes "ask"

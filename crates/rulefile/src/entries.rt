@@ -1,56 +1,38 @@
 // Reads the statements that give a name: sets, devices and delta lists.
-ghost use Rattle.rulefile.specs.Entries.{deltas_entry, device_entry, device_size, entry_of, fresh_name, said, set_entry};
-ghost use Rattle.rulefile.specs.Names.{named};
+ghost use Rattle.rulefile.specs.Entries.{deltas_entry, device_entry, device_size, entry_of, said, set_entry};
 ghost use Rattle.rulefile.specs.Outcomes.{Answered};
 ghost use Rattle.rulefile.specs.Words.{words_in};
-ghost use Rattle.std.specs.Prelude.{◌≡◌, [], map, slice_index_or};
+ghost use Rattle.std.specs.Prelude.{◌≡◌};
 
 use crate::fault::{Fault, Stop};
 use crate::lists::read_each;
-use crate::names::find;
 use crate::numbers::number16;
-use crate::rules::{Delta, Entry, EntryKind, Statement};
-use crate::words::{Words, is_name};
+use crate::rules::{EntryKind, Statement};
+use crate::words::{word_at, words_from};
 use std::alloc::Global;
 
-// A word that can be given as a name: a name that is not given above.
-pub(crate) fn check_name(entries: &[Entry], name: &[u8]) -> Result<(), Fault>
-    ensures { result ≡ fresh_name (map named entries.now) name.now }
-{
-    if !is_name(name) {
-        return Err(Fault::Name);
-    }
-    match find(entries, name) {
-        Some(_) => Err(Fault::NameTwice),
-        None => Ok(()),
-    }
-}
-
 // set NAME GLYPH…
-fn read_set_entry(heap: Global, entry: usize, words: &Words) -> Result<Statement, Stop>
+fn read_set_entry(heap: Global, entry: usize, words: &[&[u8]]) -> Result<Statement, Stop>
     ensures { Answered said result (set_entry entry (words_in words.now)) }
 {
-    let glyphs = read_each::<u16>(heap, words, 2)?;
+    let glyphs = read_each(heap, words_from(words, 2))?;
     Ok(Statement::Set { entry, glyphs })
 }
 
 // A pixel size of a device.
-fn read_size(words: &Words, at: usize) -> Result<u16, Fault>
-    ensures { result ≡ device_size (slice_index_or (words_in words.now) at []) }
+fn read_size(word: &[u8]) -> Result<u16, Fault>
+    ensures { result ≡ device_size word.now }
 {
-    match number16(words.word(at)) {
-        Some(size) => Ok(size),
-        None => Err(Fault::DeviceSize),
-    }
+    number16(word).ok_or(Fault::DeviceSize)
 }
 
 // device NAME FIRST LAST VALUE…
-fn read_device_entry(heap: Global, entry: usize, words: &Words) -> Result<Statement, Stop>
+fn read_device_entry(heap: Global, entry: usize, words: &[&[u8]]) -> Result<Statement, Stop>
     ensures { Answered said result (device_entry entry (words_in words.now)) }
 {
-    let first = read_size(words, 2)?;
-    let last = read_size(words, 3)?;
-    let values = read_each::<i8>(heap, words, 4)?;
+    let first = read_size(word_at(words, 2))?;
+    let last = read_size(word_at(words, 3))?;
+    let values = read_each(heap, words_from(words, 4))?;
     Ok(Statement::Device {
         entry,
         first,
@@ -60,10 +42,10 @@ fn read_device_entry(heap: Global, entry: usize, words: &Words) -> Result<Statem
 }
 
 // deltas NAME [REGION:DELTA…]
-fn read_deltas_entry(heap: Global, entry: usize, words: &Words) -> Result<Statement, Stop>
+fn read_deltas_entry(heap: Global, entry: usize, words: &[&[u8]]) -> Result<Statement, Stop>
     ensures { Answered said result (deltas_entry entry (words_in words.now)) }
 {
-    let deltas = read_each::<Delta>(heap, words, 2)?;
+    let deltas = read_each(heap, words_from(words, 2))?;
     Ok(Statement::Deltas { entry, deltas })
 }
 
@@ -72,7 +54,7 @@ pub(crate) fn read_entry(
     heap: Global,
     kind: EntryKind,
     entry: usize,
-    words: &Words,
+    words: &[&[u8]],
 ) -> Result<Statement, Stop>
     ensures { Answered said result (entry_of kind entry (words_in words.now)) }
 {

@@ -1,11 +1,14 @@
 // What can be wrong with a line of a rule file, and how that is said to its author.
 ghost use Rattle.rulefile.specs.declared.fault.Stop.TheVariants.{Memory, Wrong};
+ghost use Rattle.rulefile.specs.Files.{error_at};
 ghost use Rattle.rulefile.specs.Texts.{text_of};
-ghost use Rattle.std.specs.Prelude.{◌≡◌};
+ghost use Rattle.std.specs.Prelude.{◌≡◌, Some};
 
+use crate::rules::{Error, Mistake};
 use std::alloc::{AllocError, AllocFailed};
+use std::fmt;
 
-#[derive(Clone, Copy)]
+#[derive(Clone, Copy, Debug, PartialEq, Eq)]
 pub enum Fault {
     Statement,
     Extra,
@@ -84,11 +87,33 @@ impl Fault {
     }
 }
 
+impl fmt::Display for Fault {
+    ghost output = { λ f. Some (text_of f) };
+
+    fn fmt<W: fmt::Write>(&self, f: &mut fmt::Formatter<W>) -> fmt::Result {
+        f.write_str(self.text())
+    }
+}
+
+impl std::error::Error for Fault {}
+
 // Why reading stopped: no memory was left, or the file is wrong.
-#[derive(Clone, Copy)]
+#[derive(Clone, Copy, Debug, PartialEq, Eq)]
 pub(crate) enum Stop {
     Memory,
     Wrong(Fault),
+}
+
+impl Stop {
+    // Why the file is not read, where reading stopped at a line.
+    pub(crate) fn at(self, line: usize) -> Error
+        ensures { result ≡ error_at line self }
+    {
+        match self {
+            Stop::Memory => Error::Memory,
+            Stop::Wrong(fault) => Error::Wrong(Mistake { line, fault }),
+        }
+    }
 }
 
 impl From<AllocError> for Stop {

@@ -3,10 +3,9 @@ ghost use Rattle.rulefile.specs.Keywords.{entry_word, keyword_of, opening_word, 
 ghost use Rattle.std.specs.Prelude.{◌≡◌};
 
 use crate::rules::EntryKind;
-use crate::words::is_word;
 
 // Which rule or other statement after `lookup`, but for the entries.
-#[derive(Clone, Copy)]
+#[derive(Clone, Copy, Debug, PartialEq, Eq)]
 pub(crate) enum RuleKind {
     Single,
     Pair,
@@ -17,7 +16,7 @@ pub(crate) enum RuleKind {
 }
 
 // What kind of statement a line has.
-#[derive(Clone, Copy)]
+#[derive(Clone, Copy, Debug, PartialEq, Eq)]
 pub(crate) enum Keyword {
     Storage,
     Store,
@@ -30,14 +29,11 @@ pub(crate) enum Keyword {
 fn opening_word(word: &[u8]) -> Option<Keyword>
     ensures { result ≡ opening_word word.now }
 {
-    if is_word(word, b"storage") {
-        Some(Keyword::Storage)
-    } else if is_word(word, b"store") {
-        Some(Keyword::Store)
-    } else if is_word(word, b"lookup") {
-        Some(Keyword::Lookup)
-    } else {
-        None
+    match word {
+        b"storage" => Some(Keyword::Storage),
+        b"store" => Some(Keyword::Store),
+        b"lookup" => Some(Keyword::Lookup),
+        _ => None,
     }
 }
 
@@ -45,14 +41,11 @@ fn opening_word(word: &[u8]) -> Option<Keyword>
 fn entry_word(word: &[u8]) -> Option<EntryKind>
     ensures { result ≡ entry_word word.now }
 {
-    if is_word(word, b"set") {
-        Some(EntryKind::Set)
-    } else if is_word(word, b"device") {
-        Some(EntryKind::Device)
-    } else if is_word(word, b"deltas") {
-        Some(EntryKind::Deltas)
-    } else {
-        None
+    match word {
+        b"set" => Some(EntryKind::Set),
+        b"device" => Some(EntryKind::Device),
+        b"deltas" => Some(EntryKind::Deltas),
+        _ => None,
     }
 }
 
@@ -60,20 +53,14 @@ fn entry_word(word: &[u8]) -> Option<EntryKind>
 fn rule_word(word: &[u8]) -> Option<RuleKind>
     ensures { result ≡ rule_word word.now }
 {
-    if is_word(word, b"single") {
-        Some(RuleKind::Single)
-    } else if is_word(word, b"pair") {
-        Some(RuleKind::Pair)
-    } else if is_word(word, b"class") {
-        Some(RuleKind::Class)
-    } else if is_word(word, b"break") {
-        Some(RuleKind::Break)
-    } else if is_word(word, b"build") {
-        Some(RuleKind::Build)
-    } else if is_word(word, b"ask") {
-        Some(RuleKind::Ask)
-    } else {
-        None
+    match word {
+        b"single" => Some(RuleKind::Single),
+        b"pair" => Some(RuleKind::Pair),
+        b"class" => Some(RuleKind::Class),
+        b"break" => Some(RuleKind::Break),
+        b"build" => Some(RuleKind::Build),
+        b"ask" => Some(RuleKind::Ask),
+        _ => None,
     }
 }
 
@@ -81,14 +68,7 @@ fn rule_word(word: &[u8]) -> Option<RuleKind>
 pub(crate) fn keyword_of(word: &[u8]) -> Option<Keyword>
     ensures { result ≡ keyword_of word.now }
 {
-    if let Some(keyword) = opening_word(word) {
-        return Some(keyword);
-    }
-    if let Some(kind) = entry_word(word) {
-        return Some(Keyword::Entry(kind));
-    }
-    match rule_word(word) {
-        Some(rule) => Some(Keyword::Rule(rule)),
-        None => None,
-    }
+    opening_word(word)
+        .or(entry_word(word).map(Keyword::Entry))
+        .or(rule_word(word).map(Keyword::Rule))
 }

@@ -1,83 +1,118 @@
-// Finds what a name stands for. Each search goes through the names given so far.
-ghost use Rattle.rulefile.specs.Names.{named, place_of, raw_reference, raw_set, reference_of, set_reference_of};
-ghost use Rattle.rulefile.specs.Words.{position};
-ghost use Rattle.std.specs.Prelude.{◌≡◌, ◌≤◌, map, length};
+// The names given so far, and what a name stands for. Each search goes through all of them.
+ghost use Rattle.rulefile.specs.Names.{raw_reference, raw_set};
+ghost use Rattle.std.specs.Prelude.{◌≡◌, ◌∷◌, ◌++◌, [], length, OnOk};
 
 use crate::fault::Fault;
 use crate::numbers::number16;
 use crate::rules::{Entry, EntryKind, Reference, SetReference};
-use crate::words::{front, is_word, rest};
+use crate::words::{is_name, split_once};
+use std::alloc::{AllocError, Global};
 
 // The place of an entry, and what kind of entry it is.
-#[derive(Clone, Copy)]
+#[derive(Clone, Copy, Debug, PartialEq, Eq)]
 pub(crate) struct Found {
     pub entry: usize,
     pub kind: EntryKind,
 }
 
-// The entry that a name stands for.
-pub(crate) fn find(entries: &[Entry], name: &[u8]) -> Option<Found>
-    ensures { result ≡ place_of name.now (map named entries.now) }
-{
-    for at in 0..entries.len() {
-        let entry = &entries[at];
-        if is_word(entry.name.as_slice(), name) {
-            return Some(Found {
-                entry: at,
-                kind: entry.kind,
-            });
-        }
-    }
-    None
+// The names in the order in which the lines give them.
+#[derive(Drop)]
+pub(crate) struct Names {
+    pub entries: Vec<Entry>,
 }
 
-// Where a byte first stands in a word, or the word's length.
-pub(crate) fn position(word: &[u8], byte: u8) -> usize
-    ensures within { result ≤ length word.now }
-    ensures value { result ≡ position byte word.now }
-{
-    for at in 0..word.len() {
-        if word[at] == byte {
-            return at;
+impl Names {
+    ghost use Rattle.rulefile.specs.Entries.{fresh_name};
+    ghost use Rattle.rulefile.specs.Names.{name_given, names_in, place_of, reference_of, set_reference_of};
+
+    // How many names are given.
+    pub(crate) fn len(&self) -> usize
+        ensures { result ≡ length (names_in self.now) }
+    {
+        self.entries.len()
+    }
+
+    // The entry that a name stands for.
+    pub(crate) fn find(&self, name: &[u8]) -> Option<Found>
+        ensures { result ≡ place_of name.now (names_in self.now) }
+    {
+        for (at, entry) in self.entries.iter().enumerate() {
+            if entry.name.as_slice() == name {
+                return Some(Found {
+                    entry: at,
+                    kind: entry.kind,
+                });
+            }
+        }
+        None
+    }
+
+    // A word that can be given as a name: a name that is not given above.
+    pub(crate) fn check_fresh(&self, name: &[u8]) -> Result<(), Fault>
+        ensures { result ≡ fresh_name (names_in self.now) name.now }
+    {
+        if !is_name(name) {
+            return Err(Fault::Name);
+        }
+        match self.find(name) {
+            Some(_) => Err(Fault::NameTwice),
+            None => Ok(()),
         }
     }
-    word.len()
+
+    // One name more.
+    pub(crate) fn give(
+        &mut self,
+        heap: Global,
+        kind: EntryKind,
+        line: usize,
+        name: &[u8],
+    ) -> Result<(), AllocError>
+        ensures { OnOk result (names_in self.new ≡ names_in self.old ++ name_given kind line name.now ∷ []) }
+    {
+        let name = Vec::from_slice(heap, name)?;
+        self.entries.push(Entry { kind, line, name })?;
+        Ok(())
+    }
+
+    // A device or a delta list: its name, device#N or deltas#N.
+    pub(crate) fn read_reference(&self, word: &[u8]) -> Result<Reference, Fault>
+        ensures { result ≡ reference_of (names_in self.now) word.now }
+    {
+        if let Some((kind, number)) = split_once(word, b'#') {
+            return read_raw(kind, number);
+        }
+        let found = self.find(word).ok_or(Fault::UnknownName)?;
+        match found.kind {
+            EntryKind::Set => Err(Fault::NameOfSet),
+            EntryKind::Device | EntryKind::Deltas => Ok(Reference::Entered(found.entry)),
+        }
+    }
+
+    // A set: its name, or #N.
+    pub(crate) fn read_set(&self, word: &[u8]) -> Result<SetReference, Fault>
+        ensures { result ≡ set_reference_of (names_in self.now) word.now }
+    {
+        if let [b'#', number @ ..] = word {
+            return read_set_number(number);
+        }
+        let found = self.find(word).ok_or(Fault::UnknownName)?;
+        match found.kind {
+            EntryKind::Set => Ok(SetReference::EnteredSet(found.entry)),
+            EntryKind::Device | EntryKind::Deltas => Err(Fault::NotSet),
+        }
+    }
 }
 
 // A device or a delta list by its number.
 fn read_raw(kind: &[u8], number: &[u8]) -> Result<Reference, Fault>
     ensures { result ≡ raw_reference kind.now number.now }
 {
-    if is_word(kind, b"device") {
-        match number16(number) {
-            Some(n) => Ok(Reference::DeviceNumber(n)),
-            None => Err(Fault::Reference),
-        }
-    } else if is_word(kind, b"deltas") {
-        match number16(number) {
-            Some(n) => Ok(Reference::DeltasNumber(n)),
-            None => Err(Fault::Reference),
-        }
-    } else {
-        Err(Fault::Reference)
-    }
-}
-
-// A device or a delta list: its name, device#N or deltas#N.
-pub(crate) fn read_reference(entries: &[Entry], word: &[u8]) -> Result<Reference, Fault>
-    ensures { result ≡ reference_of (map named entries.now) word.now }
-{
-    let hash = position(word, b'#');
-    if hash < word.len() {
-        return read_raw(front(word, hash), rest(word, hash + 1));
-    }
-    match find(entries, word) {
-        None => Err(Fault::UnknownName),
-        Some(found) => match found.kind {
-            EntryKind::Set => Err(Fault::NameOfSet),
-            EntryKind::Device => Ok(Reference::Entered(found.entry)),
-            EntryKind::Deltas => Ok(Reference::Entered(found.entry)),
-        },
+    let number = number16(number).ok_or(Fault::Reference);
+    match kind {
+        b"device" => number.map(Reference::DeviceNumber),
+        b"deltas" => number.map(Reference::DeltasNumber),
+        _ => Err(Fault::Reference),
     }
 }
 
@@ -85,25 +120,7 @@ pub(crate) fn read_reference(entries: &[Entry], word: &[u8]) -> Result<Reference
 fn read_set_number(number: &[u8]) -> Result<SetReference, Fault>
     ensures { result ≡ raw_set number.now }
 {
-    match number16(number) {
-        Some(n) => Ok(SetReference::SetNumber(n)),
-        None => Err(Fault::NotSet),
-    }
-}
-
-// A set: its name, or #N.
-pub(crate) fn read_set(entries: &[Entry], word: &[u8]) -> Result<SetReference, Fault>
-    ensures { result ≡ set_reference_of (map named entries.now) word.now }
-{
-    if word.len() >= 1 && word[0] == b'#' {
-        return read_set_number(rest(word, 1));
-    }
-    match find(entries, word) {
-        None => Err(Fault::UnknownName),
-        Some(found) => match found.kind {
-            EntryKind::Set => Ok(SetReference::EnteredSet(found.entry)),
-            EntryKind::Device => Err(Fault::NotSet),
-            EntryKind::Deltas => Err(Fault::NotSet),
-        },
-    }
+    number16(number)
+        .map(SetReference::SetNumber)
+        .ok_or(Fault::NotSet)
 }

@@ -1,30 +1,29 @@
 // Reads a rule file line by line, and keeps what the lines before have said.
-ghost use Rattle.rulefile.specs.Files.{nothing};
-ghost use Rattle.rulefile.specs.Names.{named};
-ghost use Rattle.rulefile.specs.Outcomes.{Answered};
-ghost use Rattle.rulefile.specs.Steps.{and_names, and_says, before_lookup, enter_step, entry_here, line_step, lookup_step, may_enter, name_given, rule_here, rule_of, rule_step, state_of, statement_step, storage_step, store_step};
+ghost use Rattle.rulefile.specs.Names.{names_in};
+ghost use Rattle.rulefile.specs.Steps.{before_lookup, rule_of};
 ghost use Rattle.rulefile.specs.Words.{words_in};
-ghost use Rattle.std.specs.Prelude.{◌≡◌, map, length, OnOk};
-ghost use Rattle.rulefile.specs.Entries.{said};
+ghost use Rattle.std.specs.Prelude.{◌≡◌, OnOk};
 
-use crate::entries::{check_name, read_entry};
+use crate::entries::read_entry;
 use crate::fault::{Fault, Stop};
 use crate::keywords::{Keyword, RuleKind, keyword_of};
-use crate::rules::{Entry, EntryKind, Line, Lookup, LookupKind, Statement, Storage, StoreKind};
+use crate::names::Names;
+use crate::rules::{EntryKind, Line, Lookup, LookupKind, Statement, Storage, StoreKind};
 use crate::statements::{
     read_class, read_end, read_lookup, read_pair, read_question, read_single, read_store,
 };
 use crate::storage::read_storage;
-use crate::words::Words;
+use crate::words::{cut_words, word_at, words_from};
 use std::alloc::{AllocError, Global};
 
-// What the lines so far have said.
+// What the lines so far have said, and where it is kept.
 #[derive(Drop)]
 pub(crate) struct Parser {
+    pub heap: Global,
     pub storage: Option<Storage>,
     pub store: Option<StoreKind>,
     pub lookup: Option<Lookup>,
-    pub entries: Vec<Entry>,
+    pub names: Names,
     pub statements: Vec<Line>,
 }
 
@@ -43,50 +42,53 @@ fn check_opening(opened: bool, given: bool) -> Result<(), Fault>
 
 // The statements that hold no list and give no name.
 fn read_rule(
-    entries: &[Entry],
+    names: &Names,
     kind: LookupKind,
     rule: RuleKind,
-    words: &Words,
+    words: &[&[u8]],
 ) -> Result<Statement, Fault>
-    ensures { result ≡ rule_of (map named entries.now) kind rule (words_in words.now) }
+    ensures { result ≡ rule_of (names_in names.now) kind rule (words_in words.now) }
 {
     match (rule, kind) {
-        (RuleKind::Single, LookupKind::Single) => read_single(entries, words),
+        (RuleKind::Single, LookupKind::Single) => read_single(names, words),
         (RuleKind::Single, LookupKind::Pair) => Err(Fault::SingleOnly),
-        (RuleKind::Pair, LookupKind::Pair) => read_pair(entries, words),
+        (RuleKind::Pair, LookupKind::Pair) => read_pair(names, words),
         (RuleKind::Pair, LookupKind::Single) => Err(Fault::PairOnly),
-        (RuleKind::Class, LookupKind::Pair) => read_class(entries, words),
+        (RuleKind::Class, LookupKind::Pair) => read_class(names, words),
         (RuleKind::Class, LookupKind::Single) => Err(Fault::PairOnly),
-        (RuleKind::Break, _) => match read_end(words, 1) {
-            Ok(()) => Ok(Statement::Break),
-            Err(fault) => Err(fault),
-        },
-        (RuleKind::Build, _) => match read_end(words, 1) {
-            Ok(()) => Ok(Statement::Build),
-            Err(fault) => Err(fault),
-        },
-        (RuleKind::Ask, _) => match read_question(kind, words) {
-            Ok(question) => Ok(Statement::Ask { question }),
-            Err(fault) => Err(fault),
-        },
+        (RuleKind::Break, _) => read_end(words_from(words, 1)).map(|()| Statement::Break),
+        (RuleKind::Build, _) => read_end(words_from(words, 1)).map(|()| Statement::Build),
+        (RuleKind::Ask, _) => {
+            let question = read_question(kind, words)?;
+            Ok(Statement::Ask { question })
+        }
     }
 }
 
 impl Parser {
+    ghost use Rattle.rulefile.specs.Entries.{said};
+    ghost use Rattle.rulefile.specs.Files.{nothing};
+    ghost use Rattle.rulefile.specs.Outcomes.{Answered};
+    ghost use Rattle.rulefile.specs.Steps.{and_names, and_says, enter_step, entry_here, line_step, lookup_step, may_enter, rule_here, rule_step, state_of, statement_step, storage_step, store_step};
+    ghost use Rattle.rulefile.specs.Names.{name_given};
+
     // Before the first line.
     pub(crate) fn new(heap: Global) -> Parser
         ensures { state_of result ≡ nothing }
     {
         Parser {
+            heap,
             storage: None,
             store: None,
             lookup: None,
-            entries: Vec::new(heap),
+            names: Names {
+                entries: Vec::new(heap),
+            },
             statements: Vec::new(heap),
         }
     }
 
-    fn take_storage(&mut self, words: &Words) -> Result<(), Stop>
+    fn take_storage(&mut self, words: &[&[u8]]) -> Result<(), Stop>
         ensures { Answered (λ _. state_of self.new) result (storage_step (state_of self.old) (words_in words.now)) }
     {
         check_opening(self.lookup.is_some(), self.storage.is_some())?;
@@ -95,7 +97,7 @@ impl Parser {
         Ok(())
     }
 
-    fn take_store(&mut self, words: &Words) -> Result<(), Stop>
+    fn take_store(&mut self, words: &[&[u8]]) -> Result<(), Stop>
         ensures { Answered (λ _. state_of self.new) result (store_step (state_of self.old) (words_in words.now)) }
     {
         check_opening(self.lookup.is_some(), self.store.is_some())?;
@@ -104,7 +106,7 @@ impl Parser {
         Ok(())
     }
 
-    fn take_lookup(&mut self, words: &Words) -> Result<(), Stop>
+    fn take_lookup(&mut self, words: &[&[u8]]) -> Result<(), Stop>
         ensures { Answered (λ _. state_of self.new) result (lookup_step (state_of self.old) (words_in words.now)) }
     {
         if self.lookup.is_some() {
@@ -124,63 +126,37 @@ impl Parser {
     }
 
     // One name more.
-    fn give_name(
-        &mut self,
-        heap: Global,
-        kind: EntryKind,
-        number: usize,
-        name: &[u8],
-    ) -> Result<(), AllocError>
+    fn give_name(&mut self, kind: EntryKind, number: usize, name: &[u8]) -> Result<(), AllocError>
         ensures { OnOk result (state_of self.new ≡ and_names (state_of self.old) (name_given kind number name.now)) }
     {
-        let name = Vec::from_slice(heap, name)?;
-        self.entries.push(Entry {
-            kind,
-            line: number,
-            name,
-        })?;
-        Ok(())
+        self.names.give(self.heap, kind, number, name)
     }
 
-    fn read_rule_here(&self, rule: RuleKind, words: &Words) -> Result<Statement, Fault>
+    fn read_rule_here(&self, rule: RuleKind, words: &[&[u8]]) -> Result<Statement, Fault>
         ensures { result ≡ rule_here (state_of self.now) rule (words_in words.now) }
     {
-        match self.lookup {
-            Some(lookup) => read_rule(self.entries.as_slice(), lookup.kind, rule, words),
-            None => Err(Fault::NoLookup),
-        }
-    }
-
-    // How many names are given.
-    fn entered(&self) -> usize
-        ensures { result ≡ length (state_of self.now).entries }
-    {
-        self.entries.len()
+        let lookup = self.lookup.ok_or(Fault::NoLookup)?;
+        read_rule(&self.names, lookup.kind, rule, words)
     }
 
     // A name may be given after `lookup`, once.
     fn check_entry(&self, name: &[u8]) -> Result<(), Fault>
         ensures { result ≡ may_enter (state_of self.now) name.now }
     {
-        match self.lookup {
-            Some(_) => check_name(self.entries.as_slice(), name),
-            None => Err(Fault::NoLookup),
+        if self.lookup.is_none() {
+            return Err(Fault::NoLookup);
         }
+        self.names.check_fresh(name)
     }
 
-    fn read_entry_here(
-        &self,
-        heap: Global,
-        kind: EntryKind,
-        words: &Words,
-    ) -> Result<Statement, Stop>
+    fn read_entry_here(&self, kind: EntryKind, words: &[&[u8]]) -> Result<Statement, Stop>
         ensures { Answered said result (entry_here (state_of self.now) kind (words_in words.now)) }
     {
-        self.check_entry(words.word(1))?;
-        read_entry(heap, kind, self.entered(), words)
+        self.check_entry(word_at(words, 1))?;
+        read_entry(self.heap, kind, self.names.len(), words)
     }
 
-    fn take_rule(&mut self, number: usize, rule: RuleKind, words: &Words) -> Result<(), Stop>
+    fn take_rule(&mut self, number: usize, rule: RuleKind, words: &[&[u8]]) -> Result<(), Stop>
         ensures { Answered (λ _. state_of self.new) result (rule_step (state_of self.old) number rule (words_in words.now)) }
     {
         let statement = self.read_rule_here(rule, words)?;
@@ -188,43 +164,37 @@ impl Parser {
         Ok(())
     }
 
-    fn take_entry(
-        &mut self,
-        heap: Global,
-        number: usize,
-        kind: EntryKind,
-        words: &Words,
-    ) -> Result<(), Stop>
+    fn take_entry(&mut self, number: usize, kind: EntryKind, words: &[&[u8]]) -> Result<(), Stop>
         ensures { Answered (λ _. state_of self.new) result (enter_step (state_of self.old) number kind (words_in words.now)) }
     {
-        let statement = self.read_entry_here(heap, kind, words)?;
-        self.give_name(heap, kind, number, words.word(1))?;
+        let statement = self.read_entry_here(kind, words)?;
+        self.give_name(kind, number, word_at(words, 1))?;
         self.say(number, statement)?;
         Ok(())
     }
 
     // The statement of a line that has words.
-    fn take_statement(&mut self, heap: Global, number: usize, words: &Words) -> Result<(), Stop>
+    fn take_statement(&mut self, number: usize, words: &[&[u8]]) -> Result<(), Stop>
         ensures { Answered (λ _. state_of self.new) result (statement_step (state_of self.old) number (words_in words.now)) }
     {
-        match keyword_of(words.word(0)) {
+        match keyword_of(word_at(words, 0)) {
             Some(Keyword::Storage) => self.take_storage(words),
             Some(Keyword::Store) => self.take_store(words),
             Some(Keyword::Lookup) => self.take_lookup(words),
-            Some(Keyword::Entry(kind)) => self.take_entry(heap, number, kind, words),
+            Some(Keyword::Entry(kind)) => self.take_entry(number, kind, words),
             Some(Keyword::Rule(rule)) => self.take_rule(number, rule, words),
             None => Err(Stop::Wrong(Fault::Statement)),
         }
     }
 
     // One line more.
-    pub(crate) fn take_line(&mut self, heap: Global, number: usize, line: &[u8]) -> Result<(), Stop>
+    pub(crate) fn take_line(&mut self, number: usize, line: &[u8]) -> Result<(), Stop>
         ensures { Answered (λ _. state_of self.new) result (line_step (state_of self.old) number line.now) }
     {
-        let words = Words::read(heap, line)?;
-        if words.count() == 0 {
+        let words = cut_words(self.heap, line)?;
+        if words.is_empty() {
             return Ok(());
         }
-        self.take_statement(heap, number, &words)
+        self.take_statement(number, words.as_slice())
     }
 }

@@ -11,14 +11,9 @@ use crate::rules::{
 fn metric_uses(metric: Option<Metric>, entry: usize) -> bool
     ensures { result ≡ metric_uses metric entry }
 {
-    match metric {
-        Some(metric) => match metric.beside {
-            Some(Reference::Entered(place)) => place == entry,
-            Some(Reference::DeviceNumber(_)) => false,
-            Some(Reference::DeltasNumber(_)) => false,
-            None => false,
-        },
-        None => false,
+    match metric.and_then(|metric| metric.beside) {
+        Some(Reference::Entered(place)) => place == entry,
+        Some(Reference::DeviceNumber(_) | Reference::DeltasNumber(_)) | None => false,
     }
 }
 
@@ -68,7 +63,7 @@ impl Statement {
     fn is(&self, kind: StatementKind) -> bool
         ensures { result ≡ is_kind kind (said self.now) }
     {
-        self.kind() as u8 == kind as u8
+        self.kind() == kind
     }
 
     // Whether a rule refers to an entry by its name.
@@ -76,12 +71,8 @@ impl Statement {
         ensures { result ≡ statement_uses (said self.now) entry }
     {
         match self {
-            Statement::Single { glyph: _, record } => record_uses(*record, entry),
-            Statement::Pair {
-                first: _,
-                second: _,
-                records,
-            } => records_use(*records, entry),
+            Statement::Single { record, .. } => record_uses(*record, entry),
+            Statement::Pair { records, .. } => records_use(*records, entry),
             Statement::Class {
                 first,
                 second,
@@ -99,25 +90,19 @@ impl RuleFile {
     pub fn count(&self, kind: StatementKind) -> usize
         ensures { result ≡ how_many (of_kind kind) (file_of self.now).statements }
     {
-        let mut count = 0;
-        for at in 0..self.statements.len() {
-            if self.statements[at].statement.is(kind) {
-                count += 1;
-            }
-        }
-        count
+        self.statements
+            .iter()
+            .filter(|line| line.statement.is(kind))
+            .count()
     }
 
     // How many statements refer to an entry by its name.
     pub fn uses(&self, place: usize) -> usize
         ensures { result ≡ how_many (using_entry place) (file_of self.now).statements }
     {
-        let mut count = 0;
-        for at in 0..self.statements.len() {
-            if self.statements[at].statement.uses(place) {
-                count += 1;
-            }
-        }
-        count
+        self.statements
+            .iter()
+            .filter(|line| line.statement.uses(place))
+            .count()
     }
 }

@@ -1,68 +1,70 @@
 // Reads records: the metrics of a rule, each at most once, in any order.
-ghost use Rattle.rulefile.specs.Names.{named};
-ghost use Rattle.rulefile.specs.Records.{added, beside_of, metric_kind_of, metric_value, metrics_from, no_metric, put_metric, record_of, records_of, second_record, slash_from, with_metric, words_between};
-ghost use Rattle.std.specs.Prelude.{◌≡◌, ◌+◌, ◌<◌, ◌&&◌, [], map, drop, codes, ◌==◌, slice_index_or};
+ghost use Rattle.rulefile.specs.Names.{names_in};
+ghost use Rattle.rulefile.specs.Records.{added, default_of, metric_alone, metric_beside, metric_value, metrics_from, no_metric, one_record, put_metric, record_of, records_of, split_at_slash, two_records, wanted_metric, with_metric};
 ghost use Rattle.rulefile.specs.Words.{same_word, words_in};
+ghost use Rattle.std.specs.Option.{option_map};
+ghost use Rattle.std.specs.Prelude.{◌≡◌, codes, position};
 
 use crate::fault::Fault;
-use crate::names::{position, read_reference};
+use crate::names::Names;
 use crate::numbers::signed16;
-use crate::rules::{Entry, Metric, MetricKind, Record, Records, Reference};
-use crate::words::{Words, front, is_word, rest};
+use crate::rules::{Metric, MetricKind, Record, Records};
+use crate::words::split_once;
 
 // The metric that a key names.
-fn read_kind(key: &[u8]) -> Option<MetricKind>
-    ensures { result ≡ metric_kind_of key.now }
-{
-    if is_word(key, b"xadv") {
-        Some(MetricKind::XAdvance)
-    } else if is_word(key, b"yadv") {
-        Some(MetricKind::YAdvance)
-    } else if is_word(key, b"xpla") {
-        Some(MetricKind::XPlacement)
-    } else if is_word(key, b"ypla") {
-        Some(MetricKind::YPlacement)
-    } else {
-        None
+impl TryFrom<&[u8]> for MetricKind {
+    type Error = Fault;
+
+    ghost try_from_gives = { λ w r. r ≡ wanted_metric w.now };
+
+    fn try_from(key: &[u8]) -> Result<MetricKind, Fault> {
+        match key {
+            b"xadv" => Ok(MetricKind::XAdvance),
+            b"yadv" => Ok(MetricKind::YAdvance),
+            b"xpla" => Ok(MetricKind::XPlacement),
+            b"ypla" => Ok(MetricKind::YPlacement),
+            _ => Err(Fault::Metric),
+        }
     }
 }
 
-// What stands beside a default: nothing, or @REF.
-fn read_beside(entries: &[Entry], word: &[u8]) -> Result<Option<Reference>, Fault>
-    ensures { result ≡ beside_of (map named entries.now) word.now }
+// V
+fn read_default(word: &[u8]) -> Result<i16, Fault>
+    ensures { result ≡ default_of word.now }
 {
-    if word.is_empty() {
-        return Ok(None);
-    }
-    match read_reference(entries, rest(word, 1)) {
-        Ok(reference) => Ok(Some(reference)),
-        Err(fault) => Err(fault),
-    }
+    signed16(word).ok_or(Fault::MetricValue)
 }
 
-// A metric's default and what stands beside it.
-fn read_value(entries: &[Entry], word: &[u8]) -> Result<Metric, Fault>
-    ensures { result ≡ metric_value (map named entries.now) word.now }
+// V with nothing beside it
+fn read_alone(word: &[u8]) -> Result<Metric, Fault>
+    ensures { result ≡ metric_alone word.now }
 {
-    let at = position(word, b'@');
-    let Some(default) = signed16(front(word, at)) else {
-        return Err(Fault::MetricValue);
-    };
-    match read_beside(entries, rest(word, at)) {
-        Ok(beside) => Ok(Metric { default, beside }),
-        Err(fault) => Err(fault),
-    }
+    let default = read_default(word)?;
+    Ok(Metric {
+        default,
+        beside: None,
+    })
 }
 
-// A record with no metric at all.
-pub(crate) fn empty_record() -> Record
-    ensures { result ≡ no_metric }
+// V and what stands beside it
+fn read_beside(names: &Names, value: &[u8], reference: &[u8]) -> Result<Metric, Fault>
+    ensures { result ≡ metric_beside (names_in names.now) value.now reference.now }
 {
-    Record {
-        x_advance: None,
-        y_advance: None,
-        x_placement: None,
-        y_placement: None,
+    let default = read_default(value)?;
+    let reference = names.read_reference(reference)?;
+    Ok(Metric {
+        default,
+        beside: Some(reference),
+    })
+}
+
+// V or V@REF
+fn read_value(names: &Names, word: &[u8]) -> Result<Metric, Fault>
+    ensures { result ≡ metric_value (names_in names.now) word.now }
+{
+    match split_once(word, b'@') {
+        Some((value, reference)) => read_beside(names, value, reference),
+        None => read_alone(word),
     }
 }
 
@@ -84,104 +86,84 @@ fn with_metric(record: Record, kind: MetricKind, metric: Metric) -> Result<Recor
 }
 
 // The record with one metric more, from its key and its value.
-fn put_metric(entries: &[Entry], record: Record, key: &[u8], value: &[u8]) -> Result<Record, Fault>
-    ensures { result ≡ put_metric (map named entries.now) «record» key.now value.now }
+fn put_metric(names: &Names, record: Record, key: &[u8], value: &[u8]) -> Result<Record, Fault>
+    ensures { result ≡ put_metric (names_in names.now) «record» key.now value.now }
 {
-    let Some(kind) = read_kind(key) else {
-        return Err(Fault::Metric);
-    };
-    match read_value(entries, value) {
-        Ok(metric) => with_metric(record, kind, metric),
-        Err(fault) => Err(fault),
-    }
+    let kind = MetricKind::try_from(key)?;
+    let metric = read_value(names, value)?;
+    with_metric(record, kind, metric)
 }
 
 // The record with the metric of a word more.
-fn add_metric(entries: &[Entry], record: Record, word: &[u8]) -> Result<Record, Fault>
-    ensures { result ≡ added (map named entries.now) «record» word.now }
+fn add_metric(names: &Names, record: Record, word: &[u8]) -> Result<Record, Fault>
+    ensures { result ≡ added (names_in names.now) «record» word.now }
 {
-    let at = position(word, b'=');
-    if at >= word.len() {
-        return Err(Fault::Metric);
-    }
-    put_metric(entries, record, front(word, at), rest(word, at + 1))
+    let (key, value) = split_once(word, b'=').ok_or(Fault::Metric)?;
+    put_metric(names, record, key, value)
 }
 
-// The metrics of the words from `from` up to `to`.
-fn read_metrics(entries: &[Entry], words: &Words, from: usize, to: usize) -> Result<Record, Fault>
-    ensures { result ≡ metrics_from (map named entries.now) no_metric (words_between (words_in words.now) from to) }
+// The metrics of the words.
+fn read_metrics(names: &Names, words: &[&[u8]]) -> Result<Record, Fault>
+    ensures { result ≡ metrics_from (names_in names.now) no_metric (words_in words.now) }
 {
-    let mut record = empty_record();
-    for at in from..to.min(words.count()) {
-        match add_metric(entries, record, words.word(at)) {
-            Ok(next) => record = next,
-            Err(fault) => return Err(fault),
-        }
+    let mut record = Record::default();
+    for word in words {
+        record = add_metric(names, record, word)?;
     }
     Ok(record)
 }
 
-// Whether the words from `from` up to `to` are `-` alone.
-fn is_dash(words: &Words, from: usize, to: usize) -> bool
-    requires { from < to }
-    ensures { result ≡ (from + 1 == to && same_word (slice_index_or (words_in words.now) from []) (codes "-")) }
+// The record of the words: `-`, or one or more metrics.
+pub(crate) fn read_record(names: &Names, words: &[&[u8]]) -> Result<Record, Fault>
+    ensures { result ≡ record_of (names_in names.now) (words_in words.now) }
 {
-    from + 1 == to && is_word(words.word(from), b"-")
-}
-
-// The record of the words from `from` up to `to`.
-pub(crate) fn read_record(
-    entries: &[Entry],
-    words: &Words,
-    from: usize,
-    to: usize,
-) -> Result<Record, Fault>
-    ensures { result ≡ record_of (map named entries.now) (words_between (words_in words.now) from to) }
-{
-    let end = to.min(words.count());
-    if from >= end {
-        return Err(Fault::NoRecord);
-    }
-    if is_dash(words, from, end) {
-        return Ok(empty_record());
-    }
-    read_metrics(entries, words, from, to)
-}
-
-// Where the first `/` stands at or after `from`, or how many words there are.
-fn find_slash(words: &Words, from: usize) -> usize
-    ensures { result ≡ slash_from from (drop from (words_in words.now)) }
-{
-    let count = words.count();
-    for at in from..count {
-        if is_word(words.word(at), b"/") {
-            return at;
-        }
-    }
-    count.max(from)
-}
-
-// The record after a `/`, or one with no metric where there is no `/`.
-fn read_second(entries: &[Entry], words: &Words, slash: usize) -> Result<Record, Fault>
-    ensures { result ≡ second_record (map named entries.now) (words_in words.now) slash }
-{
-    if slash < words.count() {
-        read_record(entries, words, slash + 1, words.count())
-    } else {
-        Ok(empty_record())
+    match words {
+        [] => Err(Fault::NoRecord),
+        [word] if *word == b"-".as_slice() => Ok(Record::default()),
+        _ => read_metrics(names, words),
     }
 }
 
-// The records of the words from `from` on: one, or two with `/` between.
-pub(crate) fn read_records(entries: &[Entry], words: &Words, from: usize) -> Result<Records, Fault>
-    ensures { result ≡ records_of (map named entries.now) (words_in words.now) from }
+// Where the first `/` stands.
+fn find_slash(words: &[&[u8]]) -> Option<usize>
+    ensures { result ≡ position (λ w. same_word w (codes "/")) (words_in words.now) }
 {
-    let slash = find_slash(words, from);
-    match read_record(entries, words, from, slash) {
-        Ok(first) => match read_second(entries, words, slash) {
-            Ok(second) => Ok(Records { first, second }),
-            Err(fault) => Err(fault),
-        },
-        Err(fault) => Err(fault),
+    words.iter().position(|word| *word == b"/".as_slice())
+}
+
+// What stands before and after the first `/`.
+fn split_at_slash<'a>(words: &'a [&'a [u8]]) -> Option<(&'a [&'a [u8]], &'a [&'a [u8]])>
+    ensures { option_map (λ p. (words_in p.0.now, words_in p.1.now)) result ≡ split_at_slash (words_in words.now) }
+{
+    let at = find_slash(words)?;
+    Some((&words[..at], &words[at + 1..]))
+}
+
+// One record; the second has no metric.
+fn read_one(names: &Names, words: &[&[u8]]) -> Result<Records, Fault>
+    ensures { result ≡ one_record (names_in names.now) (words_in words.now) }
+{
+    let first = read_record(names, words)?;
+    Ok(Records {
+        first,
+        second: Record::default(),
+    })
+}
+
+fn read_two(names: &Names, first: &[&[u8]], second: &[&[u8]]) -> Result<Records, Fault>
+    ensures { result ≡ two_records (names_in names.now) (words_in first.now) (words_in second.now) }
+{
+    let first = read_record(names, first)?;
+    let second = read_record(names, second)?;
+    Ok(Records { first, second })
+}
+
+// The records of the words: one, or two with `/` between.
+pub(crate) fn read_records(names: &Names, words: &[&[u8]]) -> Result<Records, Fault>
+    ensures { result ≡ records_of (names_in names.now) (words_in words.now) }
+{
+    match split_at_slash(words) {
+        Some((first, second)) => read_two(names, first, second),
+        None => read_one(names, words),
     }
 }

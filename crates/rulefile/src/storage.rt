@@ -1,140 +1,146 @@
 // Reads `storage`: how many places are brought, by keys that may each stand once.
-ghost use Rattle.rulefile.specs.Storages.{added_key, key_of, no_keys, pool_key, put_key, storage_from, storage_of, table_key};
 ghost use Rattle.rulefile.specs.Outcomes.{word_by_word};
-ghost use Rattle.rulefile.specs.Records.{words_between};
+ghost use Rattle.rulefile.specs.Storages.{added_key, no_keys, places_of, put_key, storage_from, storage_of, wanted_key, with_key};
 ghost use Rattle.rulefile.specs.Words.{words_in};
-ghost use Rattle.std.specs.Prelude.{◌≡◌, ◌<◌, length, IfSome};
+ghost use Rattle.std.specs.Prelude.{◌≡◌};
 
 use crate::fault::Fault;
-use crate::names::position;
 use crate::numbers::unsigned;
 use crate::rules::Storage;
-use crate::words::{Words, front, is_word, rest};
+use crate::words::{split_once, words_from};
 
-// The place of a key that counts places in a table.
-fn table_key(word: &[u8]) -> Option<usize>
-    ensures within { IfSome result (λ k. k < 8) }
-    ensures value { result ≡ table_key word.now }
-{
-    if is_word(word, b"sets") {
-        Some(0)
-    } else if is_word(word, b"devices") {
-        Some(2)
-    } else if is_word(word, b"deltas") {
-        Some(4)
-    } else if is_word(word, b"rules") {
-        Some(6)
-    } else if is_word(word, b"store") {
-        Some(7)
-    } else {
-        None
+// What a key of `storage` counts: places of a table, or elements of a pool.
+#[derive(Clone, Copy, Debug, PartialEq, Eq)]
+pub(crate) enum StorageKey {
+    Sets,
+    SetPool,
+    Devices,
+    DevicePool,
+    Deltas,
+    DeltaPool,
+    Rules,
+    Store,
+}
+
+// The numbers that are given so far, by their keys.
+#[derive(Clone, Copy, Debug, Default, PartialEq, Eq)]
+pub(crate) struct GivenKeys {
+    pub sets: Option<u32>,
+    pub set_pool: Option<u32>,
+    pub devices: Option<u32>,
+    pub device_pool: Option<u32>,
+    pub deltas: Option<u32>,
+    pub delta_pool: Option<u32>,
+    pub rules: Option<u32>,
+    pub store: Option<u32>,
+}
+
+impl TryFrom<&[u8]> for StorageKey {
+    type Error = Fault;
+
+    ghost try_from_gives = { λ w r. r ≡ wanted_key w.now };
+
+    fn try_from(word: &[u8]) -> Result<StorageKey, Fault> {
+        match word {
+            b"sets" => Ok(StorageKey::Sets),
+            b"set-pool" => Ok(StorageKey::SetPool),
+            b"devices" => Ok(StorageKey::Devices),
+            b"device-pool" => Ok(StorageKey::DevicePool),
+            b"deltas" => Ok(StorageKey::Deltas),
+            b"delta-pool" => Ok(StorageKey::DeltaPool),
+            b"rules" => Ok(StorageKey::Rules),
+            b"store" => Ok(StorageKey::Store),
+            _ => Err(Fault::StorageKey),
+        }
     }
 }
 
-// The place of a key that counts elements of a pool.
-fn pool_key(word: &[u8]) -> Option<usize>
-    ensures within { IfSome result (λ k. k < 8) }
-    ensures value { result ≡ pool_key word.now }
+// A number of places.
+fn read_places(word: &[u8]) -> Result<u32, Fault>
+    ensures { result ≡ places_of word.now }
 {
-    if is_word(word, b"set-pool") {
-        Some(1)
-    } else if is_word(word, b"device-pool") {
-        Some(3)
-    } else if is_word(word, b"delta-pool") {
-        Some(5)
-    } else {
-        None
-    }
-}
-
-// The place of a key.
-fn read_key(word: &[u8]) -> Option<usize>
-    ensures within { IfSome result (λ k. k < 8) }
-    ensures value { result ≡ key_of word.now }
-{
-    match table_key(word) {
-        Some(at) => Some(at),
-        None => pool_key(word),
-    }
+    unsigned(word, u32::MAX).ok_or(Fault::StorageNumber)
 }
 
 // The keys with one more, unless it is there.
-fn put_key(given: [Option<u32>; 8], key: &[u8], number: &[u8]) -> Result<[Option<u32>; 8], Fault>
+fn with_key(given: GivenKeys, key: StorageKey, places: u32) -> Result<GivenKeys, Fault>
+    ensures { result ≡ with_key given key places }
+{
+    let mut given = given;
+    let held = match key {
+        StorageKey::Sets => given.sets.replace(places),
+        StorageKey::SetPool => given.set_pool.replace(places),
+        StorageKey::Devices => given.devices.replace(places),
+        StorageKey::DevicePool => given.device_pool.replace(places),
+        StorageKey::Deltas => given.deltas.replace(places),
+        StorageKey::DeltaPool => given.delta_pool.replace(places),
+        StorageKey::Rules => given.rules.replace(places),
+        StorageKey::Store => given.store.replace(places),
+    };
+    match held {
+        Some(_) => Err(Fault::StorageKeyTwice),
+        None => Ok(given),
+    }
+}
+
+// The keys with one more, from its word and its number.
+fn put_key(given: GivenKeys, key: &[u8], number: &[u8]) -> Result<GivenKeys, Fault>
     ensures { result ≡ put_key given key.now number.now }
 {
-    let Some(at) = read_key(key) else {
-        return Err(Fault::StorageKey);
-    };
-    let Some(places) = unsigned(number, 0xffff_ffff) else {
-        return Err(Fault::StorageNumber);
-    };
-    let mut given = given;
-    match given[at] {
-        Some(_) => Err(Fault::StorageKeyTwice),
-        None => {
-            given[at] = Some(places);
-            Ok(given)
-        }
-    }
+    let key = StorageKey::try_from(key)?;
+    let places = read_places(number)?;
+    with_key(given, key, places)
 }
 
 // The keys with that of a word more.
-fn add_key(given: [Option<u32>; 8], word: &[u8]) -> Result<[Option<u32>; 8], Fault>
+fn add_key(given: GivenKeys, word: &[u8]) -> Result<GivenKeys, Fault>
     ensures { result ≡ added_key given word.now }
 {
-    let at = position(word, b'=');
-    if at >= word.len() {
-        return Err(Fault::StorageKey);
-    }
-    put_key(given, front(word, at), rest(word, at + 1))
+    let (key, number) = split_once(word, b'=').ok_or(Fault::StorageKey)?;
+    put_key(given, key, number)
 }
 
 // The storage that the given keys ask for; a key that is absent has its default.
-fn with_defaults(given: [Option<u32>; 8]) -> Storage
+fn with_defaults(given: GivenKeys) -> Storage
     ensures { result ≡ storage_from given }
 {
     Storage {
-        sets: given[0].unwrap_or(65534),
-        set_pool: given[1].unwrap_or(1048576),
-        devices: given[2].unwrap_or(65535),
-        device_pool: given[3].unwrap_or(1048576),
-        deltas: given[4].unwrap_or(65535),
-        delta_pool: given[5].unwrap_or(1048576),
-        rules: given[6].unwrap_or(65535),
-        store: given[7].unwrap_or(65535),
+        sets: given.sets.unwrap_or(65534),
+        set_pool: given.set_pool.unwrap_or(1048576),
+        devices: given.devices.unwrap_or(65535),
+        device_pool: given.device_pool.unwrap_or(1048576),
+        deltas: given.deltas.unwrap_or(65535),
+        delta_pool: given.delta_pool.unwrap_or(1048576),
+        rules: given.rules.unwrap_or(65535),
+        store: given.store.unwrap_or(65535),
     }
 }
 
-// The keys of the words after the first.
-fn read_keys(words: &Words) -> Result<[Option<u32>; 8], Fault>
-    ensures { result ≡ word_by_word added_key no_keys (words_between (words_in words.now) 1 (length (words_in words.now))) }
+// The keys of the words.
+fn read_keys(words: &[&[u8]]) -> Result<GivenKeys, Fault>
+    ensures { result ≡ word_by_word added_key no_keys (words_in words.now) }
 {
-    let mut given = [None; 8];
-    for at in 1..words.count() {
-        match add_key(given, words.word(at)) {
-            Ok(next) => given = next,
-            Err(fault) => return Err(fault),
-        }
+    let mut given = GivenKeys::default();
+    for word in words {
+        given = add_key(given, word)?;
     }
     Ok(given)
 }
 
 // storage KEY=N and more of them
-pub(crate) fn read_storage(words: &Words) -> Result<Storage, Fault>
+pub(crate) fn read_storage(words: &[&[u8]]) -> Result<Storage, Fault>
     ensures { result ≡ storage_of (words_in words.now) }
 {
-    if words.count() < 2 {
+    let keys = words_from(words, 1);
+    if keys.is_empty() {
         return Err(Fault::StorageKey);
     }
-    match read_keys(words) {
-        Ok(given) => Ok(with_defaults(given)),
-        Err(fault) => Err(fault),
-    }
+    read_keys(keys).map(with_defaults)
 }
 
 // What is brought where no `storage` says otherwise.
 pub(crate) fn default_storage() -> Storage
     ensures { result ≡ storage_from no_keys }
 {
-    with_defaults([None; 8])
+    with_defaults(GivenKeys::default())
 }

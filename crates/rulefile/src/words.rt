@@ -1,153 +1,75 @@
-// Cuts a line into its words. The words are kept as places in a copy of the line.
+// Cuts a line into its words, which borrow the line.
 // Linear in the line's length.
-ghost use Rattle.std.specs.Prelude.{◌≡◌, ◌<◌, ◌≤◌, [], ◌++◌, length, take, drop, IfOk, OnOk, slice_index_or};
-ghost use Rattle.rulefile.specs.Words.{before_comment, is_name, kept, letter, name_byte, part_of, pieces, same_word, words_at, words_in, words_of};
+ghost use Rattle.std.specs.Prelude.{◌≡◌, ◌==◌, drop, IfOk, position};
+ghost use Rattle.std.specs.List.{list_all};
+ghost use Rattle.std.specs.Option.{option_map};
+ghost use Rattle.rulefile.specs.Words.{is_name, letter, name_byte, split_once, word, words_in, words_of};
 
 use std::alloc::{AllocError, Global};
 
-// Where a part of a list begins and ends.
-#[derive(Clone, Copy)]
-pub struct Part {
-    pub start: usize,
-    pub end: usize,
-}
-
-// The words of one line.
-#[derive(Drop)]
-pub(crate) struct Words {
-    line: Vec<u8>,
-    parts: Vec<Part>,
-}
-
-// A part of a list of bytes; what lies past the list's end is left out.
-pub(crate) fn part_of(bytes: &[u8], part: Part) -> &[u8]
-    ensures { result.now ≡ part_of bytes.now part }
+// The words of a line, without its comment.
+pub(crate) fn cut_words(heap: Global, line: &[u8]) -> Result<Vec<&[u8]>, AllocError>
+    ensures { IfOk result (λ v. words_in v.items ≡ words_of line.now) }
 {
-    let end = part.end.min(bytes.len());
-    let start = part.start.min(end);
-    &bytes[start..end]
+    line.split(|byte| *byte == b' ')
+        .filter(|word| !word.is_empty())
+        .take_while(|word| *word != b"#".as_slice())
+        .collect(heap)
 }
 
-// The first `count` bytes of a word, or all of them.
-pub(crate) fn front(word: &[u8], count: usize) -> &[u8]
-    ensures { result.now ≡ take count word.now }
+// The word at a place, counted from 0, or no bytes where there is none: no word is empty.
+pub(crate) fn word_at<'a>(words: &[&'a [u8]], at: usize) -> &'a [u8]
+    ensures { result.now ≡ word (words_in words.now) at }
 {
-    let end = count.min(word.len());
-    &word[0..end]
+    words.get(at).copied().unwrap_or(&[])
 }
 
-// What follows the first `count` bytes of a word.
-pub(crate) fn rest(word: &[u8], count: usize) -> &[u8]
-    ensures { result.now ≡ drop count word.now }
+// The words from a place on.
+pub(crate) fn words_from<'a>(words: &'a [&'a [u8]], from: usize) -> &'a [&'a [u8]]
+    ensures { words_in result.now ≡ drop from (words_in words.now) }
 {
-    let start = count.min(word.len());
-    &word[start..word.len()]
+    words.get(from..).unwrap_or(&[])
 }
 
-// Whether two words are the same bytes.
-pub(crate) fn is_word(word: &[u8], other: &[u8]) -> bool
-    ensures { result ≡ same_word word.now other.now }
+// Where a byte first stands in a word.
+fn position(word: &[u8], byte: u8) -> Option<usize>
+    ensures { result ≡ position (λ b. b == byte) word.now }
 {
-    word == other
+    word.iter().position(|b| *b == byte)
 }
 
-// Keeps the part from `start` to `end`, unless it is empty.
-fn keep(parts: &mut Vec<Part>, start: usize, end: usize) -> Result<(), AllocError>
-    ensures { OnOk result (parts.new.items ≡ parts.old.items ++ kept start end) }
+// What stands before and after the first of a byte in a word.
+pub(crate) fn split_once(word: &[u8], byte: u8) -> Option<(&[u8], &[u8])>
+    ensures { option_map (λ p. (p.0.now, p.1.now)) result ≡ split_once byte word.now }
 {
-    if start < end {
-        parts.push(Part { start, end })?;
-    }
-    Ok(())
-}
-
-// The pieces of a line between its spaces.
-fn cut(heap: Global, line: &[u8]) -> Result<Vec<Part>, AllocError>
-    ensures { IfOk result (λ v. words_at line.now v.items ≡ pieces line.now) }
-{
-    let mut parts = Vec::new(heap);
-    let mut start = 0;
-    for at in 0..line.len() {
-        if line[at] == b' ' {
-            keep(&mut parts, start, at)?;
-            start = at + 1;
-        }
-    }
-    keep(&mut parts, start, line.len())?;
-    Ok(parts)
-}
-
-// How many of the pieces stand before a comment.
-fn before_comment(line: &[u8], parts: &[Part]) -> usize
-    ensures within { result ≤ length parts.now }
-    ensures value { words_at line.now (take result parts.now) ≡ before_comment (words_at line.now parts.now) }
-{
-    for at in 0..parts.len() {
-        if is_word(part_of(line, parts[at]), b"#") {
-            return at;
-        }
-    }
-    parts.len()
-}
-
-impl Words {
-    // The words of a line, without its comment.
-    pub(crate) fn read(heap: Global, line: &[u8]) -> Result<Words, AllocError>
-        ensures { IfOk result (λ w. words_in w ≡ words_of line.now) }
-    {
-        let mut parts = cut(heap, line)?;
-        let count = before_comment(line, parts.as_slice());
-        parts.truncate(count);
-        let line = Vec::from_slice(heap, line)?;
-        Ok(Words { line, parts })
-    }
-
-    // How many words there are.
-    pub(crate) fn count(&self) -> usize
-        ensures { result ≡ length (words_in self.now) }
-    {
-        self.parts.len()
-    }
-
-    // The word at a place, counted from 0, or no bytes where there is none: no word is empty.
-    pub(crate) fn word(&self, at: usize) -> &[u8]
-        ensures { result.now ≡ slice_index_or (words_in self.now) at [] }
-    {
-        if at < self.parts.len() {
-            let part = self.parts[at];
-            part_of(self.line.as_slice(), part)
-        } else {
-            &[]
-        }
-    }
+    let at = position(word, byte)?;
+    Some((&word[..at], &word[at + 1..]))
 }
 
 fn is_letter(byte: u8) -> bool
     ensures { result ≡ letter byte }
 {
-    byte >= b'A' && byte <= b'Z' || byte >= b'a' && byte <= b'z'
+    byte.is_ascii_alphabetic()
 }
 
 fn is_name_byte(byte: u8) -> bool
     ensures { result ≡ name_byte byte }
 {
-    is_letter(byte) || byte >= b'0' && byte <= b'9' || byte == b'_' || byte == b'.' || byte == b'-'
+    is_letter(byte) || byte.is_ascii_digit() || matches!(byte, b'_' | b'.' | b'-')
+}
+
+fn are_name_bytes(bytes: &[u8]) -> bool
+    ensures { result ≡ list_all name_byte bytes.now }
+{
+    bytes.iter().all(|byte| is_name_byte(*byte))
 }
 
 // Whether a word is a name: a letter, then letters, digits, `_`, `.` and `-`.
 pub(crate) fn is_name(word: &[u8]) -> bool
     ensures { result ≡ is_name word.now }
 {
-    if word.is_empty() {
-        return false;
+    match word {
+        [first, rest @ ..] => is_letter(*first) && are_name_bytes(rest),
+        [] => false,
     }
-    if !is_letter(word[0]) {
-        return false;
-    }
-    for at in 1..word.len() {
-        if !is_name_byte(word[at]) {
-            return false;
-        }
-    }
-    true
 }

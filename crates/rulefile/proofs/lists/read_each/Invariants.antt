@@ -4,7 +4,7 @@ use Rattle.rulefile.specs.Words.{words_in}
 use Rattle.rulefile.proofs.Listing.{onto}
 use Rattle.rulefile.proofs.lists.read_each.Given as goal
 
-abbrev pub invariant-loop-at : goal.invariant-loop-at
-invariant-loop-at g l =
-    onto (vec_items l.items) (each g.T.Item.reads (drop l.at (words_in l.words)))
-    ≡ each g.T.Item.reads (drop l.from (words_in l.words))
+abbrev pub invariant-loop-word : goal.invariant-loop-word
+invariant-loop-word g l =
+    onto (vec_items l.items) (each g.T.Item.reads (words_in (drop l.word-index l.words)))
+    ≡ each g.T.Item.reads (words_in l.words)

@@ -1,21 +1,11 @@
-use Rattle.std.proofs.Common.{◌≡◌, [], codes, sym, ap, ◌∙◌, arith}
-use Rattle.rulefile.specs.Words.{same_word, words_in}
-use Rattle.rulefile.proofs.Finding.{first_here, first_later, first_end}
+use Rattle.std.proofs.Common.{codes, sym, ◌∙◌, rules, tests}
+use Rattle.std.proofs.lemmas.Iterator.{YieldsList-from_slice}
+use Rattle.std.proofs.lemmas.Iterator.Search.{position_from_yields_List}
+use Rattle.rulefile.specs.Words.{same_word}
+use Rattle.rulefile.proofs.Cutting.{position-map}
 use Rattle.rulefile.proofs.records.find_slash.Goals as goal
-
-pub returns-then-is_word : goal.returns-then-is_word
-returns-then-is_word c =
-    first_here (λ w. same_word w (codes "/")) (words_in c.args.words.now) c.loop-at.at [] (omega arith)
-    (sym (c.if-is_word.ensures ∙ ap (λ w. same_word w (codes "/")) c.word.ensures)) c.loop-at.invariant.1
-
-pub loop-at-preserved : goal.loop-at-preserved
-loop-at-preserved c = (
-  omega arith,
-  first_later (λ w. same_word w (codes "/")) (words_in c.args.words.now) c.loop-at.at [] (omega arith)
-      (sym (c.if-is_word.ensures ∙ ap (λ w. same_word w (codes "/")) c.word.ensures)) c.loop-at.invariant.1,
-)
 
 pub returns : goal.returns
 returns c =
-    let e = first_end (λ w. same_word w (codes "/")) (words_in c.args.words.now) c.loop-at.at (omega arith) c.loop-at.invariant.1 in
-    let here : c.max.result ≡ c.loop-at.at = omega arith in here ∙ e
+    position_from_yields_List (λ w. same_word w.now (codes "/")) _ _ _ c.position.ensures.ran (YieldsList-from_slice c.args.words.now (cc)) (λ x b q k. search (rules, tests))
+    ∙ sym (position-map (λ w. same_word w (codes "/")) (λ w. w.now) c.args.words.now)
