@@ -1,7 +1,7 @@
 // Pairs in key order over memory that the caller brings: rows as they arrive, and their numbers in the order of their keys.
 // Finding a key halves what is left; an insertion moves numbers of 16 bits only.
 
-ghost use Rattle.std.specs.Prelude.{◌≡◌, ℕ, ◌+◌, ◌-◌, ◌<◌, ◌≤◌, min, [], length, Err, slice_set};
+ghost use Rattle.std.specs.Prelude.{◌≡◌, ◌<◌, min, [], length, Err, slice_set};
 ghost use Rattle.std.specs.declared.cmp.Ordering.TheVariants.{Equal};
 ghost use Rattle.std.specs.List.{insert as put_at, HoldsAt};
 ghost use Rattle.spec.specs.Lists.{at, inserted, replaced};
