@@ -14,6 +14,8 @@ use Rattle.layout.specs.Writing.{room}
 use Rattle.layout.specs.Faults.{class_count, class_fault_by, class_fault}
 use Rattle.layout.specs.Described.{table_fields}
 use Rattle.layout.proofs.Whole.{room_is, below_fields}
+use Rattle.layout.specs.Gathering.{record_fields}
+use Rattle.layout.proofs.RangeWriting.{class_records}
 use Rattle.layout.proofs.Listing.{sorted_rises}
 
 is_one : (b : Bool) → ◌≡◌ {A = ℕ} 1 (cond b 1 2) → b ≡ true
@@ -73,8 +75,8 @@ module _ (ps : List (ℕ × ℕ)) where
       range_count : n ≡ length (ranges ps)
       range_count = q ∙ ap (λ b. cond b (span ps) (length (ranges ps))) by_range
 
-      pub range_pieces : big_endian (2 ∷ n ∷ []) ++ big_endian (class_range_fields (ranges ps)) ≡ big_endian (table_fields (class_def ps))
-      range_pieces = sym (ap big_endian (range_fields by_range) ∙ ap (λ x. big_endian (2 ∷ x ∷ class_range_fields (ranges ps))) (sym range_count))
+      pub range_pieces : big_endian (2 ∷ n ∷ []) ++ big_endian (record_fields (λ r k. r.class) 0 (ranges ps)) ≡ big_endian (table_fields (class_def ps))
+      range_pieces = ap (λ l. big_endian (2 ∷ n ∷ l)) (class_records 0 (ranges ps)) ∙ sym (ap big_endian (range_fields by_range) ∙ ap (λ x. big_endian (2 ∷ x ∷ class_range_fields (ranges ps))) (sym range_count))
 
       pub range_size : class_fault ps ≡ None → 4 + 6 * n ≡ room (class_fault ps) (table_fields (class_def ps))
       range_size e =

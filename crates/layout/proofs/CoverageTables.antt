@@ -9,6 +9,8 @@ use Rattle.laws.proofs.Covering.{coverage_reads}
 use Rattle.layout.specs.Writing.{room}
 use Rattle.layout.specs.Faults.{coverage_fault}
 use Rattle.layout.specs.Described.{table_fields}
+use Rattle.layout.specs.Gathering.{record_fields}
+use Rattle.layout.proofs.RangeWriting.{index_records}
 use Rattle.layout.proofs.Whole.{room_is, below_fields}
 
 is_one : (b : Bool) → ◌≡◌ {A = ℕ} 1 (cond b 2 1) → b ≡ false
@@ -40,8 +42,8 @@ module _ (gs : List ℕ) where
     pub glyph_pieces : 1 ≡ coverage_format gs → big_endian (1 ∷ n ∷ []) ++ big_endian gs ≡ big_endian (table_fields (coverage gs))
     glyph_pieces p = pieces 1 p gs (ap (λ b. cond b (range_fields 0 (glyph_ranges gs)) gs) (as_glyphs p))
 
-    pub range_pieces : 2 ≡ coverage_format gs → big_endian (2 ∷ n ∷ []) ++ big_endian (range_fields 0 (glyph_ranges gs)) ≡ big_endian (table_fields (coverage gs))
-    range_pieces p = pieces 2 p (range_fields 0 (glyph_ranges gs)) (ap (λ b. cond b (range_fields 0 (glyph_ranges gs)) gs) (as_ranges p))
+    pub range_pieces : 2 ≡ coverage_format gs → big_endian (2 ∷ n ∷ []) ++ big_endian (record_fields (λ r k. k) 0 (glyph_ranges gs)) ≡ big_endian (table_fields (coverage gs))
+    range_pieces p = ap (λ l. big_endian (2 ∷ n ∷ l)) (index_records 0 (glyph_ranges gs)) ∙ pieces 2 p (range_fields 0 (glyph_ranges gs)) (ap (λ b. cond b (range_fields 0 (glyph_ranges gs)) gs) (as_ranges p))
 
     pub glyph_size : coverage_fault gs ≡ None → 1 ≡ coverage_format gs → 4 + 2 * n ≡ room (coverage_fault gs) (table_fields (coverage gs))
     glyph_size e p =

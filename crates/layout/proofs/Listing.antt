@@ -1,7 +1,7 @@
 -- Glyphs with their classes: where one stands, and what is left of those listed as a span of glyphs is walked.
 use Rattle.std.proofs.Common.{◌≡◌, ℕ, ◌+◌, ◌-◌, ◌<◌, ◌≤◌, Bool, true, false, eqb, leb, List, [], ◌∷◌, map, length, get_or, drop, Some, None, Option, sym, refl, ap, ◌∙◌, subst, arith}
 use Rattle.std.proofs.lemmas.Bool.Decides.{nat_tests}
-use Rattle.std.proofs.lemmas.List.{at_drop_more, at_drop_all}
+use Rattle.std.proofs.lemmas.List.{length-map, at_drop_more, at_drop_all}
 use Rattle.spec.specs.Entries.{not_rising, unsorted}
 use Rattle.spec.specs.Classes.{class_at, last_from, span}
 use Rattle.laws.specs.Conditions.{Above, Rising}
@@ -69,6 +69,18 @@ rises i b (x ∷ xs) e = go (leb x b) refl e (rises (i + 1) x xs)
 pub sorted_rises : (xs : List ℕ) → unsorted xs ≡ None → Rising xs
 sorted_rises [] e = tt
 sorted_rises (x ∷ xs) e = rises 1 x xs e
+
+reach : (b : ℕ) (ps : List (ℕ × ℕ)) → Above b (map (λ p. p.0) ps) → b + length ps ≤ last_from b ps
+reach b [] a = omega arith
+reach b (p ∷ ps) a = let h = reach p.0 ps a.1 in omega arith
+
+within_span : (ps : List (ℕ × ℕ)) → Rising (map (λ p. p.0) ps) → length ps ≤ span ps
+within_span [] r = omega arith
+within_span (p ∷ ps) r = let h = reach p.0 ps r in omega arith
+
+-- there are no more entries than glyphs in their span
+pub few : (cs : List GlyphClass) → unsorted (map (λ p. p.0) (listed cs)) ≡ None → length cs ≤ span (listed cs)
+few cs e = omega (arith, within_span (listed cs) (sorted_rises (map (λ p. p.0) (listed cs)) e), length-map {B = ℕ × ℕ} cs (λ e. (e.glyph, e.class)))
 
 -- ---- a walk along the span
 

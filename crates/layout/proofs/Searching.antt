@@ -2,8 +2,7 @@
 use Rattle.std.proofs.Common.{◌≡◌, ℕ, suc, ◌+◌, ◌-◌, ◌*◌, ◌<◌, ◌≤◌, Bool, true, false, eqb, leb, List, Some, Ok, Err, Option, Result, sym, refl, ap, ◌∙◌, arith}
 use Rattle.std.proofs.lemmas.Bool.Decides.{nat_tests}
 use Rattle.spec.specs.Fields.{field, and_then}
-use Rattle.spec.specs.Meaning.{glyph_search, range_search, covered_by_glyphs}
-use Rattle.layout.specs.Headers.{range_of}
+use Rattle.spec.specs.Meaning.{glyph_search, range_search}
 
 module _ (bs : List ℕ) (g table i n : ℕ) (h : i < n) where
   left : n - i ≡ suc (n - (i + 1))
@@ -20,12 +19,6 @@ module _ (bs : List ℕ) (g table i n : ℕ) (h : i < n) where
   glyph_step : (r : Result ℕ ℕ) → r ≡ field bs (table + (4 + 2 * i))
       → glyph_search bs g (at + 2 * i) i (n - i) ≡ and_then r (λ x. elim (eqb x g) [ true ↦ Ok (Some i) | false ↦ glyph_search bs g (at + 2 * i + 2) (i + 1) (n - (i + 1)) ])
   glyph_step r p = ap (glyph_search bs g (at + 2 * i) i) left ∙ ap (λ z. and_then z (λ x. elim (eqb x g) [ true ↦ Ok (Some i) | false ↦ glyph_search bs g (at + 2 * i + 2) (i + 1) (n - (i + 1)) ])) (sym (moved (table + (4 + 2 * i)) (at + 2 * i) r (omega arith) p))
-
-  pub glyph_fault : (e : ℕ) → Err e ≡ field bs (table + (4 + 2 * i)) → glyph_search bs g (at + 2 * i) i (n - i) ≡ Err e
-  glyph_fault e p = glyph_step (Err e) p
-
-  pub glyph_found : (x : ℕ) → Ok x ≡ field bs (table + (4 + 2 * i)) → x ≡ g → glyph_search bs g (at + 2 * i) i (n - i) ≡ Ok (Some i)
-  glyph_found x p q = glyph_step (Ok x) p ∙ grind (arith, nat_tests)
 
   pub glyph_next : (x : ℕ) → Ok x ≡ field bs (table + (4 + 2 * i)) → (x ≡ g → ⊥) → glyph_search bs g (at + 2 * i) i (n - i) ≡ glyph_search bs g (at + 2 * (i + 1)) (i + 1) (n - (i + 1))
   glyph_next x p q =
@@ -53,9 +46,6 @@ module _ (bs : List ℕ) (g table i n : ℕ) (h : i < n) where
   range_step : (r : Result ℕ ℕ) → r ≡ field bs (table + (4 + 6 * i)) → range_search bs g (at + 6 * i) (n - i) ≡ and_then r by_start
   range_step r p = ap (range_search bs g (at + 6 * i)) left ∙ ap (λ z. and_then z by_start) (sym (moved (table + (4 + 6 * i)) (at + 6 * i) r (omega arith) p))
 
-  pub start_fault : (e : ℕ) → Err e ≡ field bs (table + (4 + 6 * i)) → range_search bs g (at + 6 * i) (n - i) ≡ Err e
-  start_fault e p = range_step (Err e) p
-
   -- the start is not above the glyph
   inside : (s : ℕ) (r : Result ℕ ℕ) → s ≤ g → r ≡ field bs (table + (4 + 6 * i + 2)) → by_start s ≡ and_then r (by_end s)
   inside s r l p = go (leb s g) (grind (arith, nat_tests))
@@ -63,9 +53,6 @@ module _ (bs : List ℕ) (g table i n : ℕ) (h : i < n) where
       go : (b : Bool) → b ≡ true → ◌≡◌ {A = Result (Option (ℕ × ℕ)) ℕ} (elim b [ true ↦ and_then (field bs (at + 6 * i + 2)) (by_end s) | false ↦ rest ]) (and_then r (by_end s))
       go true e = ap (λ z. and_then z (by_end s)) (sym (moved (table + (4 + 6 * i + 2)) (at + 6 * i + 2) r (omega arith) p))
       go false e = cc
-
-  pub end_fault : (s e : ℕ) → Ok s ≡ field bs (table + (4 + 6 * i)) → s ≤ g → Err e ≡ field bs (table + (4 + 6 * i + 2)) → range_search bs g (at + 6 * i) (n - i) ≡ Err e
-  end_fault s e p l q = range_step (Ok s) p ∙ inside s (Err e) l q
 
   -- nor is its end below it
   holds : (s e : ℕ) (r : Result ℕ ℕ) → g ≤ e → r ≡ field bs (table + (4 + 6 * i + 4)) → by_end s e ≡ and_then r (λ x. Ok (Some (s, x)))
@@ -97,17 +84,3 @@ module _ (bs : List ℕ) (g table i n : ℕ) (h : i < n) where
       go : (b : Bool) → b ≡ false → ◌≡◌ {A = Result (Option (ℕ × ℕ)) ℕ} (elim b [ true ↦ third s | false ↦ rest ]) rest
       go true f = cc
       go false f = refl
-
--- ---- a search begins at the first entry, once the count is read
-module _ (bs : List ℕ) (g table n : ℕ) (p : Ok n ≡ field bs (table + 2)) where
-  pub glyphs_begin : glyph_search bs g (table + 4 + 2 * 0) 0 (n - 0) ≡ covered_by_glyphs bs table g
-  glyphs_begin =
-      let e : table + 4 + 2 * 0 ≡ table + 4 = omega arith in
-      let k : n - 0 ≡ n = omega arith in
-      ap (λ a. glyph_search bs g a 0 (n - 0)) e ∙ ap (glyph_search bs g (table + 4) 0) k ∙ ap (λ r. and_then r (λ m. glyph_search bs g (table + 4) 0 m)) p
-
-  pub ranges_begin : range_search bs g (table + 4 + 6 * 0) (n - 0) ≡ range_of bs table g
-  ranges_begin =
-      let e : table + 4 + 6 * 0 ≡ table + 4 = omega arith in
-      let k : n - 0 ≡ n = omega arith in
-      ap (λ a. range_search bs g a (n - 0)) e ∙ ap (range_search bs g (table + 4)) k ∙ ap (λ r. and_then r (λ m. range_search bs g (table + 4) m)) p

@@ -65,10 +65,3 @@ module _ (f : ℕ) (xs ys xs' ys' : List ℕ) (b v : ℕ) (p : xs ≡ b ∷ xs')
       go : (t : Bool) → eqb (bit_and f b) 0 ≡ t → big_endian (present_if (not t) v (picked f xs' ys')) ≡ big_endian (v ∷ []) ++ big_endian (picked f xs' ys')
       go true e = absurd (n (grind (arith, nat_tests)))
       go false e = refl
-
-  pub picked_no : bit_and f b ≡ 0 → big_endian (picked f xs ys) ≡ big_endian (picked f xs' ys')
-  picked_no n = ap (λ l. big_endian (picked f l ys)) p ∙ ap (λ l. big_endian (picked f (b ∷ xs') l)) q ∙ go (eqb (bit_and f b) 0) (grind (arith, nat_tests))
-    where
-      go : (t : Bool) → t ≡ true → big_endian (present_if (not t) v (picked f xs' ys')) ≡ big_endian (picked f xs' ys')
-      go true e = refl
-      go false e = cc

@@ -12,12 +12,6 @@ use Rattle.layout.specs.Faults.{word_count, words_in}
 abbrev pub words_from : ℕ → List ℤ → ℕ → List ℕ
 words_from f vs k = map (word f vs) (numbers k (word_count f vs - k))
 
-pub words_all : (f : ℕ) (vs : List ℤ) → big_endian (words_in f vs) ≡ big_endian (words_from f vs 0)
-words_all f vs = let e : word_count f vs ≡ word_count f vs - 0 = omega arith in ap (λ n. big_endian (map (word f vs) (numbers 0 n))) e
-
-pub words_done : (f : ℕ) (vs : List ℤ) (k : ℕ) → word_count f vs ≤ k → big_endian (words_from f vs k) ≡ []
-words_done f vs k h = let e : word_count f vs - k ≡ 0 = omega arith in ap (λ n. big_endian (map (word f vs) (numbers k n))) e
-
 pub words_length : (f : ℕ) (vs : List ℤ) → length (words_in f vs) ≡ word_count f vs
 words_length f vs = length_map_numbers (word f vs) 0 (word_count f vs)
 
@@ -43,15 +37,8 @@ module _ {A : Type 0} (size : ℕ) (rest chunk behind : List A) (e : rest ≡ ch
       go (inl h) = drop_all size rest (omega arith) ∙ sym (last h)
       go (inr h) = ap (drop size) e ∙ drop_at chunk behind size (omega arith)
 
--- where the chunks are no more than those so far, and where one is left
+-- while a chunk is left, a word is left
 module _ (f size : ℕ) (vs : List ℤ) (k : ℕ) (q : size ≡ per_word f) (z : 0 < size) where
-  pub words_end : length vs ≤ k * size → word_count f vs ≤ k
-  words_end h = go (cases_lt k (word_count f vs)) (count_is f size vs q)
-    where
-      go : (k < word_count f vs) ⊎ (word_count f vs ≤ k) → (length vs + size - 1) / size ≡ word_count f vs → word_count f vs ≤ k
-      go (inl l) c = let m = (le-div_iff_mul-le {k = size} {x = k + 1} {y = length vs + size - 1} z).0 (omega arith) in absurd (omega (arith, add-mul k 1 size))
-      go (inr l) c = l
-
   words_more : k * size < length vs → k < word_count f vs
   words_more h =
       let c = count_is f size vs q in

@@ -43,9 +43,13 @@ Shaped r fault format count = MatchResult r (λ s. (fault ≡ None) × ((shaped 
 abbrev pub class_count : List (ℕ × ℕ) → ℕ
 class_count ps = cond (shorter_as_array ps) (span ps) (length (ranges ps))
 
+-- a count above 65,535
+abbrev pub count_fault : ℕ → Option Denial
+count_fault n = cond (nat_lt 65535 n) (Some (arises Word.too_many n Part.writer)) None
+
 abbrev pub class_fault_by : Option ℕ → ℕ → Option Denial
 class_fault_by (Some i) n = Some (arises Word.bad_set i Part.writer)
-class_fault_by None n = cond (nat_lt 65535 n) (Some (arises Word.too_many n Part.writer)) None
+class_fault_by None n = count_fault n
 
 -- a class definition whose glyphs do not rise, or with a count above 65,535
 abbrev pub class_fault : List (ℕ × ℕ) → Option Denial

@@ -7,7 +7,7 @@ ghost use Rattle.layout.specs.DeltaFormats.{number};
 use crate::delta_words::DeltaFormat;
 use crate::reading::FontData;
 
-// A metric without an id has this one: in OpenType the highest outer and inner index together say that there is none.
+// A metric without an id has this one. It stays a number, since OpenType itself says by it that there is none.
 pub const NO_ID: u32 = 0xFFFF_FFFF;
 
 // In the place of a delta format it says that the table is a variation index table.

@@ -1,6 +1,6 @@
 // Class definitions: the classes of a span of glyphs or ranges of one class, whichever is shorter, ranges if both are the same.
 
-ghost use Rattle.std.specs.Prelude.{◌≡◌, ℕ, ◌^◌, ◌<◌, List, None, Ok};
+ghost use Rattle.std.specs.Prelude.{◌≡◌, ℕ, ◌^◌, ◌<◌, ◌≤◌, List, length, None, Ok, OnOk};
 ghost use Rattle.spec.specs.Fields.{big_endian, Stand};
 ghost use Rattle.spec.specs.Classes.{class_at, class_format};
 ghost use Rattle.spec.specs.Bytes.{class_def};
@@ -10,12 +10,11 @@ ghost use Rattle.layout.specs.Faults.{Shaped, class_count, class_fault};
 ghost use Rattle.layout.specs.Listing.{listed};
 ghost use Rattle.layout.specs.Described.{table_fields};
 
-use crate::glyph_class::{
-    GlyphClass, count_ranges, first_and_span, first_unsorted, write_array, write_ranges,
-};
+use crate::glyph_class::{GlyphClass, first_and_span, first_unsorted, write_array};
 use crate::output::Output;
+use crate::ranges::{count_ranges, write_ranges};
 use crate::reading::FontData;
-use crate::shape::Shape;
+use crate::shape::{Shape, count_field};
 use crate::write::{FontRead, FontWrite};
 use denials::denial::{Denial, Part, Word};
 
@@ -55,27 +54,25 @@ pub struct ClassDef<'a> {
 
 impl ClassDef<'_> {
     // Its shape, or why the table cannot be written: glyphs that do not rise, or a count above 65,535.
+    #[tactic(auto, using(crate::proofs::Listing::few))]
     fn shape(&self) -> Result<Shape, Denial>
-        ensures { Shaped result (class_fault (listed self.now.classes.now)) (class_format (listed self.now.classes.now)) (class_count (listed self.now.classes.now)) }
+        ensures shaped { Shaped result (class_fault (listed self.now.classes.now)) (class_format (listed self.now.classes.now)) (class_count (listed self.now.classes.now)) }
+        ensures few { OnOk result (length self.now.classes.now ≤ 65536) }
     {
         if let Some(place) = first_unsorted(self.classes) {
             return Err(Denial::new(Word::BadSet, place, Part::Writer));
         }
         let (_, span) = first_and_span(self.classes);
         let ranges = count_ranges(self.classes);
-        let is_array = 6 + 2 * span < 4 + 6 * ranges;
-        let count = if is_array { span } else { ranges };
-        let denial = Denial::new(Word::TooMany, count, Part::Writer);
-        let count = u16::try_from(count).map_err(|_| denial)?;
-        if is_array {
-            Ok(Shape::Array(count))
+        if 6 + 2 * span < 4 + 6 * ranges {
+            Ok(Shape::Array(count_field(span)?))
         } else {
-            Ok(Shape::Ranges(count))
+            Ok(Shape::Ranges(count_field(ranges)?))
         }
     }
 }
 
-impl<'a> FontWrite for ClassDef<'a> {
+impl FontWrite for ClassDef<'_> {
     ghost encoded = { λ t. table_fields (class_def (listed t.classes.now)) };
 
     ghost fault = { λ t. class_fault (listed t.classes.now) };
@@ -108,7 +105,7 @@ impl<'a> FontWrite for ClassDef<'a> {
     }
 }
 
-impl<'a> FontRead for ClassDef<'a> {
+impl FontRead for ClassDef<'_> {
     type Question = u16;
 
     type Answer = u16;

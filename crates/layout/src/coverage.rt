@@ -9,53 +9,12 @@ ghost use Rattle.layout.specs.Writing.{Wrote, Puts, room};
 ghost use Rattle.layout.specs.Faults.{Shaped, coverage_fault};
 ghost use Rattle.layout.specs.Described.{table_fields};
 
-use crate::gather::Gatherer;
 use crate::output::Output;
+use crate::ranges::{count_ranges, write_ranges};
 use crate::reading::FontData;
-use crate::shape::Shape;
+use crate::shape::{Shape, count_field};
 use crate::write::{FontRead, FontWrite};
 use denials::denial::{Denial, Part, Word};
-
-// How many ranges the glyphs make.
-fn count_ranges(glyphs: &[u16]) -> usize
-    ensures value { result ≡ length (glyph_ranges glyphs.now) }
-    ensures bound { result ≤ length glyphs.now }
-{
-    let mut gatherer = Gatherer::Empty;
-    let mut count = 0;
-    for glyph in glyphs {
-        let (next, closed) = gatherer.next(*glyph, 0);
-        gatherer = next;
-        if closed.is_some() {
-            count += 1;
-        }
-    }
-    match gatherer {
-        Gatherer::Empty => count,
-        Gatherer::Open(_) => count + 1,
-    }
-}
-
-// Writes the ranges of the glyphs, each with the coverage index of its start.
-fn write_ranges(out: &mut Output<'_>, glyphs: &[u16]) -> Result<(), Denial>
-    requires { length glyphs.now ≤ 65536 }
-    ensures { Wrote result out.old out.new (big_endian (range_fields 0 (glyph_ranges glyphs.now))) }
-{
-    let mut gatherer = Gatherer::Empty;
-    let mut index: u16 = 0;
-    for glyph in glyphs {
-        let (next, closed) = gatherer.next(*glyph, 0);
-        gatherer = next;
-        if let Some(range) = closed {
-            out.fields(&[range.start, range.end, index])?;
-            index += range.end - range.start + 1;
-        }
-    }
-    match gatherer {
-        Gatherer::Empty => Ok(()),
-        Gatherer::Open(range) => out.fields(&[range.start, range.end, index]),
-    }
-}
 
 // The coverage index of a glyph in the table at a position, or none.
 pub fn read_coverage(bytes: &[u8], at: u32, glyph: u16) -> Result<Option<u32>, usize>
@@ -86,20 +45,18 @@ impl CoverageTable<'_> {
         ensures { Shaped result (coverage_fault self.now.glyphs.now) (coverage_format self.now.glyphs.now) (coverage_count self.now.glyphs.now) }
     {
         let glyphs = self.glyphs.len();
-        let denial = Denial::new(Word::TooMany, glyphs, Part::Writer);
         if glyphs > 65536 {
-            return Err(denial);
+            return Err(Denial::new(Word::TooMany, glyphs, Part::Writer));
         }
         let ranges = count_ranges(self.glyphs);
         if 4 + 6 * ranges < 4 + 2 * glyphs {
             return Ok(Shape::Ranges(ranges as u16));
         }
-        let count = u16::try_from(glyphs).map_err(|_| denial)?;
-        Ok(Shape::Array(count))
+        Ok(Shape::Array(count_field(glyphs)?))
     }
 }
 
-impl<'a> FontWrite for CoverageTable<'a> {
+impl FontWrite for CoverageTable<'_> {
     ghost encoded = { λ t. table_fields (coverage t.glyphs.now) };
 
     ghost fault = { λ t. coverage_fault t.glyphs.now };
@@ -131,7 +88,7 @@ impl<'a> FontWrite for CoverageTable<'a> {
     }
 }
 
-impl<'a> FontRead for CoverageTable<'a> {
+impl FontRead for CoverageTable<'_> {
     type Question = u16;
 
     type Answer = Option<u32>;

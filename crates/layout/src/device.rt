@@ -35,7 +35,7 @@ impl Device<'_> {
     }
 }
 
-impl<'a> FontWrite for Device<'a> {
+impl FontWrite for Device<'_> {
     ghost encoded = { λ d. device_fields (described d) };
 
     ghost fault = { λ d. device_fault d.first_size (length d.values.now) };
@@ -61,7 +61,7 @@ impl<'a> FontWrite for Device<'a> {
     }
 }
 
-impl<'a> FontRead for Device<'a> {
+impl FontRead for Device<'_> {
     type Question = u16;
 
     type Answer = (i8, u32);

@@ -11,36 +11,34 @@ pub struct RangeRecord {
     pub class: u16,
 }
 
-// No range yet, or the one that the next glyph may extend.
+// The range that the next glyph may extend, if there is one.
 #[derive(Clone, Copy, Debug, PartialEq, Eq)]
-pub enum Gatherer {
-    Empty,
-    Open(RangeRecord),
+pub struct Gatherer {
+    pub open: Option<RangeRecord>,
 }
 
 impl Gatherer {
-    // The gatherer after a glyph, and the range that the glyph closed.
-    pub fn next(self, glyph: u16, class: u16) -> (Gatherer, Option<RangeRecord>)
-        ensures { result ≡ step self glyph class }
+    // Takes the next glyph, and gives the range that the glyph closed.
+    pub fn next(&mut self, glyph: u16, class: u16) -> Option<RangeRecord>
+        ensures open { self.new.open ≡ (step self.old.open glyph class).0 }
+        ensures closed { result ≡ (step self.old.open glyph class).1 }
     {
-        let single = Gatherer::Open(RangeRecord {
-            start: glyph,
-            end: glyph,
-            class,
-        });
-        match self {
-            Gatherer::Empty => (single, None),
-            Gatherer::Open(range) => {
-                if glyph as u32 == range.end as u32 + 1 && class == range.class {
-                    let longer = RangeRecord {
-                        start: range.start,
-                        end: glyph,
-                        class,
-                    };
-                    (Gatherer::Open(longer), None)
-                } else {
-                    (single, Some(range))
-                }
+        match self.open {
+            Some(range) if range.end.checked_add(1) == Some(glyph) && range.class == class => {
+                self.open = Some(RangeRecord {
+                    start: range.start,
+                    end: glyph,
+                    class,
+                });
+                None
+            }
+            closed => {
+                self.open = Some(RangeRecord {
+                    start: glyph,
+                    end: glyph,
+                    class,
+                });
+                closed
             }
         }
     }

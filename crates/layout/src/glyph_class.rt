@@ -1,16 +1,14 @@
-// Glyphs with their classes, as class definitions list them: their ranges, and the classes of their span.
+// Glyphs with their classes, as class definitions list them, and the classes of their span.
 
 ghost use Rattle.std.specs.Prelude.{◌≡◌, ℕ, ◌^◌, ◌<◌, ◌≤◌, List, map, length, drop};
 ghost use Rattle.spec.specs.Fields.{big_endian};
 ghost use Rattle.spec.specs.Entries.{unsorted};
-ghost use Rattle.spec.specs.Coverage.{ranges};
-ghost use Rattle.spec.specs.Classes.{first_listed, class_array, class_range_fields};
+ghost use Rattle.spec.specs.Classes.{first_listed, class_array};
 ghost use Rattle.spec.specs.Classes.{span as span_of};
 ghost use Rattle.laws.specs.Conditions.{Rising};
 ghost use Rattle.layout.specs.Writing.{Wrote};
 ghost use Rattle.layout.specs.Listing.{listed, here};
 
-use crate::gather::Gatherer;
 use crate::output::Output;
 use denials::denial::Denial;
 
@@ -31,26 +29,6 @@ pub(crate) fn first_unsorted(classes: &[GlyphClass]) -> Option<usize>
         }
     }
     None
-}
-
-// How many ranges the glyphs make.
-pub(crate) fn count_ranges(classes: &[GlyphClass]) -> usize
-    ensures value { result ≡ length (ranges (listed classes.now)) }
-    ensures bound { result ≤ length classes.now }
-{
-    let mut gatherer = Gatherer::Empty;
-    let mut count = 0;
-    for entry in classes {
-        let (next, closed) = gatherer.next(entry.glyph, entry.class);
-        gatherer = next;
-        if closed.is_some() {
-            count += 1;
-        }
-    }
-    match gatherer {
-        Gatherer::Empty => count,
-        Gatherer::Open(_) => count + 1,
-    }
 }
 
 // The first glyph, and how many there are from it to the last.
@@ -76,24 +54,6 @@ fn class_here(classes: &[GlyphClass], glyph: usize) -> (u16, &[GlyphClass])
     match classes.split_first() {
         Some((entry, behind)) if usize::from(entry.glyph) == glyph => (entry.class, behind),
         _ => (0, classes),
-    }
-}
-
-// Writes the ranges, each with its class.
-pub(crate) fn write_ranges(out: &mut Output<'_>, classes: &[GlyphClass]) -> Result<(), Denial>
-    ensures { Wrote result out.old out.new (big_endian (class_range_fields (ranges (listed classes.now)))) }
-{
-    let mut gatherer = Gatherer::Empty;
-    for entry in classes {
-        let (next, closed) = gatherer.next(entry.glyph, entry.class);
-        gatherer = next;
-        if let Some(range) = closed {
-            out.fields(&[range.start, range.end, range.class])?;
-        }
-    }
-    match gatherer {
-        Gatherer::Empty => Ok(()),
-        Gatherer::Open(range) => out.fields(&[range.start, range.end, range.class]),
     }
 }
 

@@ -9,6 +9,7 @@ pub mod device;
 pub mod gather;
 pub mod glyph_class;
 pub mod output;
+mod ranges;
 pub mod reading;
 mod shape;
 pub mod value;

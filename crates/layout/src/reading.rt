@@ -51,6 +51,7 @@ impl FontData<'_> {
         ensures { result ≡ covered_by_glyphs self.now.bytes.now self.now.at glyph }
     {
         let count = self.field(2)?;
+        // The places stay a counted `for`: an entry is only a byte position, and no field beyond the match is read.
         for i in 0..u32::from(count) {
             if self.field(4 + 2 * i)? == glyph {
                 return Ok(Some(i));
@@ -65,6 +66,7 @@ impl FontData<'_> {
         ensures { result ≡ range_of self.now.bytes.now self.now.at glyph }
     {
         let count = self.field(2)?;
+        // The places stay a counted `for`: an entry is only a byte position, and only the fields that are needed are read.
         for i in 0..u32::from(count) {
             let range = 4 + 6 * i;
             let start = self.field(range)?;

@@ -1,7 +1,7 @@
 use Rattle.std.proofs.Common.{inl, inr, rules}
 use Rattle.std.proofs.lemmas.Result.{err_from_is_err_and}
 use Rattle.layout.proofs.Places.{begin, again, more, fails, ends}
-use Rattle.layout.proofs.Values.{picked_all, picked_yes, picked_no, picked_end}
+use Rattle.layout.proofs.Values.{picked_all, picked_yes, picked_end}
 use Rattle.layout.proofs.value.write_value.Goals as goal
 
 pub loop-bit-init : goal.loop-bit-init
@@ -10,9 +10,6 @@ loop-bit-init c = again (begin c.args.out.now _) _ (picked_all c.args.format c.a
 pub loop-bit-preserved-in-Continue-1 : goal.loop-bit-preserved-in-Continue-1
 loop-bit-preserved-in-Continue-1 c = let s = c.in-Some.ensures.steps in
     more c.loop-bit.invariant _ _ (picked_yes c.args.format _ _ _ _ _ _ s.0 s.1 c.if-format-bit-ne0.true) c.in_ok-field.ensures
-
-pub loop-bit-preserved : goal.loop-bit-preserved
-loop-bit-preserved c = let s = c.in-Some.ensures.steps in again c.loop-bit.invariant _ (picked_no c.args.format _ _ _ _ _ _ s.0 s.1 c.if-format-bit-ne0.false)
 
 pub returns-in_err-field : goal.returns-in_err-field
 returns-in_err-field c =

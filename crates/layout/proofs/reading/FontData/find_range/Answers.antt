@@ -1,24 +1,11 @@
 use Rattle.std.proofs.Common.{arith}
 use Rattle.std.proofs.lemmas.Result.{err_from_is_err_and}
-use Rattle.layout.proofs.Searching.{ranges_begin, start_fault, end_fault, third_fault, range_found, start_above, end_below}
+use Rattle.layout.proofs.Searching.{third_fault, range_found, start_above, end_below}
 use Rattle.layout.proofs.reading.FontData.find_range.Goals as goal
-
-pub loop-i-init : goal.loop-i-init
-loop-i-init c = ranges_begin c.args.self.now.bytes.now c.args.glyph c.args.self.now.at c.in_ok-count.count c.in_ok-count.ensures
-
-pub returns-in_err-start : goal.returns-in_err-start
-returns-in_err-start c =
-    let p = err_from_is_err_and c.from_residual-in_err-start.result c.from_residual-in_err-start.ensures.1 in
-    let o = start_fault c.args.self.now.bytes.now c.args.glyph c.args.self.now.at c.loop-i.i c.in_ok-count.count (omega arith) _ c.in_err-start.ensures in cc
 
 pub loop-i-preserved-then-start-glyph : goal.loop-i-preserved-then-start-glyph
 loop-i-preserved-then-start-glyph c =
     let o = start_above c.args.self.now.bytes.now c.args.glyph c.args.self.now.at c.loop-i.i c.in_ok-count.count (omega arith) _ c.in_ok-start.ensures (omega arith) in cc
-
-pub returns-in_err-end : goal.returns-in_err-end
-returns-in_err-end c =
-    let p = err_from_is_err_and c.from_residual-in_err-end.result c.from_residual-in_err-end.ensures.1 in
-    let o = end_fault c.args.self.now.bytes.now c.args.glyph c.args.self.now.at c.loop-i.i c.in_ok-count.count (omega arith) _ _ c.in_ok-start.ensures (omega arith) c.in_err-end.ensures in cc
 
 pub loop-i-preserved : goal.loop-i-preserved
 loop-i-preserved c =
