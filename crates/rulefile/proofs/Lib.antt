@@ -1,5 +1,4 @@
 pub mod Reading
 pub mod Cutting
 pub mod Spelling
-pub mod Listing
 pub mod Rising

@@ -1,5 +1,5 @@
 -- Where a mistake is, and that the statements of a file stand on rising lines.
-use Rattle.std.proofs.Common.{◌≡◌, ℕ, ◌+◌, ◌<◌, ◌≤◌, Bool, true, false, cond, eqb, ◌⊎◌, List, [], ◌∷◌, ◌++◌, length, is_some, IfOk, IfErr, Some, None, Ok, Err, Option, Result, sym, refl, ap, subst, inl, inr, arith}
+use Rattle.std.proofs.Common.{◌≡◌, ℕ, ◌+◌, ◌<◌, ◌≤◌, Bool, true, false, cond, eqb, ◌⊎◌, List, [], ◌∷◌, ◌++◌, length, is_some, IfOk, IfErr, Some, None, Ok, Err, Option, Result, sym, refl, subst, inl, inr, arith}
 use Rattle.rulefile.specs.declared.fault.Fault.{Fault}
 use Rattle.rulefile.specs.declared.fault.Fault.TheVariants as fault
 use Rattle.rulefile.specs.declared.keywords.Keyword.{Keyword}
@@ -21,22 +21,13 @@ use Rattle.rulefile.specs.Steps.{State, Told, and_names, and_says, before_lookup
 use Rattle.rulefile.specs.Storages.{storage_of}
 use Rattle.rulefile.specs.Words.{word, words_of}
 
--- a mistake's line, where there is a mistake
-abbrev line_of : {X : Type 0} → Result X Mistake → ℕ
-line_of (Ok x) = 0
-line_of (Err m) = m.line
-
-abbrev is_ok : {X Y : Type 0} → Result X Y → ℕ
-is_ok (Ok x) = 0
-is_ok (Err y) = 1
-
 -- a line that is wrong is one of those that are read
 placed_at : (n k : ℕ) (o : Result State Fault) (f : State → Result State Mistake) (m : Mistake) → ((s : State) → f s ≡ Err m → (n + 1 ≤ m.line) × (m.line < n + 1 + k)) → at_line n o f ≡ Err m → (n ≤ m.line) × (m.line < n + (k + 1))
 placed_at n k (Ok s) f m rest e = let p = rest s e in (omega (arith, p.0), omega (arith, p.1))
-placed_at n k (Err x) f m rest e = let p : n ≡ m.line = ap line_of e in (omega arith, omega arith)
+placed_at n k (Err x) f m rest e = let p : n ≡ m.line = cc in (omega arith, omega arith)
 
 placed : (s : State) (n : ℕ) (ls : List (List ℕ)) (m : Mistake) → lines_from s n ls ≡ Err m → (n ≤ m.line) × (m.line < n + length ls)
-placed s n [] m e = let z : ◌≡◌ {A = ℕ} 0 1 = ap is_ok e in absurd (omega arith)
+placed s n [] m e = absurd (cc)
 placed s n (l ∷ ls) m e =
     let p = placed_at n (length ls) (line_step s n l) (λ more. lines_from more (n + 1) ls) m (λ t q. placed t (n + 1) ls m q) e in
     (p.0, omega (arith, p.1))
@@ -51,14 +42,14 @@ some_line w [] = omega arith
 some_line w (b ∷ bs) = some_at w b bs (eqb b 10) (some_line (w ++ b ∷ []) bs)
 
 ended : (n : ℕ) (s : State) (o : Option Lookup) (m : Mistake) → opened n s o ≡ Err m → n ≡ m.line
-ended n s None m e = ap line_of e
-ended n s (Some l) m e = let z : ◌≡◌ {A = ℕ} 0 1 = ap is_ok e in absurd (omega arith)
+ended n s None m e = cc
+ended n s (Some l) m e = absurd (cc)
 
 placed_whole : (n : ℕ) (o : Result State Mistake) (m : Mistake) → 1 ≤ n → ((p : Mistake) → o ≡ Err p → (1 ≤ p.line) × (p.line < 1 + n)) → afterwards o (finished n) ≡ Err m → (1 ≤ m.line) × (m.line ≤ n)
 placed_whole n (Ok s) m some rest e = let p = ended n s s.lookup m e in (omega arith, omega arith)
 placed_whole n (Err x) m some rest e =
     let p = rest x refl in
-    let q : x.line ≡ m.line = ap line_of e in
+    let q : x.line ≡ m.line = cc in
     (omega (arith, p.0), omega (arith, p.1))
 
 -- a mistake is on a line of the text
@@ -85,20 +76,13 @@ below_push : (n : ℕ) (ts : List Told) (x : Said) → Below n ts → Below (n +
 below_push n [] x b = (omega arith, tt)
 below_push n (t ∷ ts) x b = (omega (arith, b.0), below_push n ts x b.1)
 
-abbrev statements_of : {E : Type 0} → Result State E → List Told
-statements_of (Ok s) = s.statements
-statements_of (Err e) = []
-
 -- a line adds one statement with its number, or none
 abbrev Adds : State → State → ℕ → Type 0
 Adds s t n = (t.statements ≡ s.statements) ⊎ ((x : Said) × (t.statements ≡ s.statements ++ record { line = n; says = x } ∷ []))
 
 gone_on : {X : Type 0} (o : Result X Fault) (f : X → Result State Fault) (t : State) (P : Type 0) → ((x : X) → f x ≡ Ok t → P) → then o f ≡ Ok t → P
 gone_on (Ok x) f t P k e = k x e
-gone_on (Err y) f t P k e = let z : ◌≡◌ {A = ℕ} 1 0 = ap is_ok e in absurd (omega arith)
-
-not_wrong : (y : Fault) (t : State) (P : Type 0) → Err y ≡ Ok t → P
-not_wrong y t P e = let z : ◌≡◌ {A = ℕ} 1 0 = ap is_ok e in absurd (omega arith)
+gone_on (Err y) f t P k e = absurd (cc)
 
 either_way : (b : Bool) (x y : Result State Fault) (t : State) (P : Type 0) → (x ≡ Ok t → P) → (y ≡ Ok t → P) → cond b x y ≡ Ok t → P
 either_way true x y t P f g e = f e
@@ -114,25 +98,25 @@ abbrev with_lookup : State → Lookup → Result State Fault
 with_lookup s x = Ok (record { storage = s.storage; store = s.store; lookup = Some x; entries = s.entries; statements = s.statements })
 
 keyword_adds : (s t : State) (n : ℕ) (ws : List (List ℕ)) (k : Option Keyword) → keyword_step s n ws k ≡ Ok t → Adds s t n
-keyword_adds s t n ws None e = not_wrong fault.Statement t (Adds s t n) e
+keyword_adds s t n ws None e = absurd (cc)
 keyword_adds s t n ws (Some keyword.Storage) e =
     gone_on (before_lookup (is_some s.lookup) (is_some s.storage)) (λ _. then (storage_of ws) (with_storage s)) t (Adds s t n)
-    (λ _ p. gone_on (storage_of ws) (with_storage s) t (Adds s t n) (λ x q. inl (sym (ap statements_of q))) p) e
+    (λ _ p. gone_on (storage_of ws) (with_storage s) t (Adds s t n) (λ x q. inl (cc)) p) e
 keyword_adds s t n ws (Some keyword.Store) e =
     gone_on (before_lookup (is_some s.lookup) (is_some s.store)) (λ _. then (store_of ws) (with_store s)) t (Adds s t n)
-    (λ _ p. gone_on (store_of ws) (with_store s) t (Adds s t n) (λ x q. inl (sym (ap statements_of q))) p) e
+    (λ _ p. gone_on (store_of ws) (with_store s) t (Adds s t n) (λ x q. inl (cc)) p) e
 keyword_adds s t n ws (Some keyword.Lookup) e =
     either_way (is_some s.lookup) (Err fault.Twice) (then (lookup_of ws) (with_lookup s)) t (Adds s t n)
-    (λ p. not_wrong fault.Twice t (Adds s t n) p)
-    (λ p. gone_on (lookup_of ws) (with_lookup s) t (Adds s t n) (λ x q. inl (sym (ap statements_of q))) p) e
+    (λ p. absurd (cc))
+    (λ p. gone_on (lookup_of ws) (with_lookup s) t (Adds s t n) (λ x q. inl (cc)) p) e
 keyword_adds s t n ws (Some (keyword.Entry k)) e =
-    gone_on (entry_here s k ws) (λ x. Ok (and_says (and_names s (name_given k n (word ws 1))) n x)) t (Adds s t n) (λ x q. inr (x, sym (ap statements_of q))) e
+    gone_on (entry_here s k ws) (λ x. Ok (and_says (and_names s (name_given k n (word ws 1))) n x)) t (Adds s t n) (λ x q. inr (x, cc)) e
 keyword_adds s t n ws (Some (keyword.Rule r)) e =
-    gone_on (rule_here s r ws) (λ x. Ok (and_says s n (said x))) t (Adds s t n) (λ x q. inr (said x, sym (ap statements_of q))) e
+    gone_on (rule_here s r ws) (λ x. Ok (and_says s n (said x))) t (Adds s t n) (λ x q. inr (said x, cc)) e
 
 line_adds : (s t : State) (n : ℕ) (l : List ℕ) → line_step s n l ≡ Ok t → Adds s t n
 line_adds s t n l e =
-    either_way (eqb (length (words_of l)) 0) (Ok s) (statement_step s n (words_of l)) t (Adds s t n) (λ p. inl (sym (ap statements_of p)))
+    either_way (eqb (length (words_of l)) 0) (Ok s) (statement_step s n (words_of l)) t (Adds s t n) (λ p. inl (cc))
     (λ p. keyword_adds s t n (words_of l) (keyword_of (word (words_of l) 0)) p) e
 
 -- statements on rising lines, all before the line n
@@ -145,25 +129,21 @@ sofar_more s t n h b (inr p) = subst (Sofar (n + 1)) (sym p.1) (rises_push 0 n s
 
 rising_at : (n : ℕ) (o : Result State Fault) (f : State → Result State Mistake) (t : State) (P : Type 0) → ((u : State) → o ≡ Ok u → f u ≡ Ok t → P) → at_line n o f ≡ Ok t → P
 rising_at n (Ok u) f t P rest e = rest u refl e
-rising_at n (Err y) f t P rest e = let z : ◌≡◌ {A = ℕ} 1 0 = ap is_ok e in absurd (omega arith)
+rising_at n (Err y) f t P rest e = absurd (cc)
 
 rising : (s t : State) (n : ℕ) (ls : List (List ℕ)) → 1 ≤ n → Sofar n s.statements → lines_from s n ls ≡ Ok t → Rises 0 t.statements
-rising s t n [] h b e = subst (Rises 0) (ap statements_of e) b.0
+rising s t n [] h b e = let same : s.statements ≡ t.statements = cc in subst (Rises 0) same b.0
 rising s t n (l ∷ ls) h b e =
     rising_at n (line_step s n l) (λ more. lines_from more (n + 1) ls) t (Rises 0 t.statements)
     (λ u p q. rising u t (n + 1) ls (omega arith) (sofar_more s u n h b (line_adds s u n l p)) q) e
 
-abbrev says_of : Result File Mistake → List Told
-says_of (Ok f) = f.statements
-says_of (Err m) = []
-
 opened_says : (n : ℕ) (s : State) (o : Option Lookup) (f : File) → opened n s o ≡ Ok f → f.statements ≡ s.statements
-opened_says n s None f e = let z : ◌≡◌ {A = ℕ} 1 0 = ap is_ok e in absurd (omega arith)
-opened_says n s (Some l) f e = sym (ap says_of e)
+opened_says n s None f e = absurd (cc)
+opened_says n s (Some l) f e = cc
 
 rising_whole : (n : ℕ) (o : Result State Mistake) (f : File) → ((s : State) → o ≡ Ok s → Rises 0 s.statements) → afterwards o (finished n) ≡ Ok f → Rises 0 f.statements
 rising_whole n (Ok s) f rest e = subst (Rises 0) (sym (opened_says n s s.lookup f e)) (rest s refl)
-rising_whole n (Err m) f rest e = let z : ◌≡◌ {A = ℕ} 1 0 = ap is_ok e in absurd (omega arith)
+rising_whole n (Err m) f rest e = absurd (cc)
 
 -- the statements of a file stand on rising lines
 pub rising_lines : (text : List ℕ) (r : Result RuleFile Error) → Parsed file_of r (parsed text) → IfOk r (λ f. Rises 0 (file_of f).statements)

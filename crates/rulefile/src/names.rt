@@ -54,10 +54,10 @@ impl Names {
         if !is_name(name) {
             return Err(Fault::Name);
         }
-        match self.find(name) {
-            Some(_) => Err(Fault::NameTwice),
-            None => Ok(()),
+        if self.find(name).is_some() {
+            return Err(Fault::NameTwice);
         }
+        Ok(())
     }
 
     // One name more.

@@ -46,6 +46,8 @@ pub(crate) fn unsigned(word: &[u8], limit: u32) -> Option<u32>
     }
 }
 
+// This and the signed two below are a line each, with a cast that is proved to lose nothing: one generic form is no plainer, since
+// it would need a trait for their limits and conversions.
 // A number of 16 bits.
 pub(crate) fn number16(word: &[u8]) -> Option<u16>
     ensures { result ≡ unsigned_up_to 65535 word.now }

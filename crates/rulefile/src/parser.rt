@@ -177,13 +177,13 @@ impl Parser {
     fn take_statement(&mut self, number: usize, words: &[&[u8]]) -> Result<(), Stop>
         ensures { Answered (λ _. state_of self.new) result (statement_step (state_of self.old) number (words_in words.now)) }
     {
-        match keyword_of(word_at(words, 0)) {
-            Some(Keyword::Storage) => self.take_storage(words),
-            Some(Keyword::Store) => self.take_store(words),
-            Some(Keyword::Lookup) => self.take_lookup(words),
-            Some(Keyword::Entry(kind)) => self.take_entry(number, kind, words),
-            Some(Keyword::Rule(rule)) => self.take_rule(number, rule, words),
-            None => Err(Stop::Wrong(Fault::Statement)),
+        let keyword = keyword_of(word_at(words, 0)).ok_or(Fault::Statement)?;
+        match keyword {
+            Keyword::Storage => self.take_storage(words),
+            Keyword::Store => self.take_store(words),
+            Keyword::Lookup => self.take_lookup(words),
+            Keyword::Entry(kind) => self.take_entry(number, kind, words),
+            Keyword::Rule(rule) => self.take_rule(number, rule, words),
         }
     }
 

@@ -11,10 +11,7 @@ use crate::rules::{
 fn metric_uses(metric: Option<Metric>, entry: usize) -> bool
     ensures { result ≡ metric_uses metric entry }
 {
-    match metric.and_then(|metric| metric.beside) {
-        Some(Reference::Entered(place)) => place == entry,
-        Some(Reference::DeviceNumber(_) | Reference::DeltasNumber(_)) | None => false,
-    }
+    metric.and_then(|metric| metric.beside) == Some(Reference::Entered(entry))
 }
 
 fn record_uses(record: Record, entry: usize) -> bool
@@ -35,10 +32,7 @@ fn records_use(records: Records, entry: usize) -> bool
 fn set_uses(reference: SetReference, entry: usize) -> bool
     ensures { result ≡ set_uses reference entry }
 {
-    match reference {
-        SetReference::EnteredSet(place) => place == entry,
-        SetReference::SetNumber(_) => false,
-    }
+    reference == SetReference::EnteredSet(entry)
 }
 
 impl Statement {

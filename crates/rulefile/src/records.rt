@@ -69,10 +69,9 @@ fn read_value(names: &Names, word: &[u8]) -> Result<Metric, Fault>
 }
 
 // The record with one metric more, unless it has that metric.
-fn with_metric(record: Record, kind: MetricKind, metric: Metric) -> Result<Record, Fault>
+fn with_metric(mut record: Record, kind: MetricKind, metric: Metric) -> Result<Record, Fault>
     ensures { result ≡ with_metric «record» kind metric }
 {
-    let mut record = record;
     let held = match kind {
         MetricKind::XAdvance => record.x_advance.replace(metric),
         MetricKind::YAdvance => record.y_advance.replace(metric),

@@ -63,10 +63,9 @@ fn read_places(word: &[u8]) -> Result<u32, Fault>
 }
 
 // The keys with one more, unless it is there.
-fn with_key(given: GivenKeys, key: StorageKey, places: u32) -> Result<GivenKeys, Fault>
+fn with_key(mut given: GivenKeys, key: StorageKey, places: u32) -> Result<GivenKeys, Fault>
     ensures { result ≡ with_key given key places }
 {
-    let mut given = given;
     let held = match key {
         StorageKey::Sets => given.sets.replace(places),
         StorageKey::SetPool => given.set_pool.replace(places),

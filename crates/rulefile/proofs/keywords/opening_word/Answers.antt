@@ -8,3 +8,6 @@ returns-in-lookup c = spelled opening_word c.args.word.now (codes "lookup") (ome
 
 pub returns-in-storage : goal.returns-in-storage
 returns-in-storage c = spelled opening_word c.args.word.now (codes "storage") (omega arith) (search arith)
+
+pub returns-in-store : goal.returns-in-store
+returns-in-store c = spelled opening_word c.args.word.now (codes "store") (omega arith) (search arith)

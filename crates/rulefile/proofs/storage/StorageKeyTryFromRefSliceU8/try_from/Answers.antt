@@ -17,3 +17,12 @@ returns-in-100 c = spelled wanted_key c.args.word.now (codes "device-pool") (ome
 
 pub returns-in-100-2 : goal.returns-in-100-2
 returns-in-100-2 c = spelled wanted_key c.args.word.now (codes "delta-pool") (omega arith) (search arith)
+
+pub returns-in-sets : goal.returns-in-sets
+returns-in-sets c = spelled wanted_key c.args.word.now (codes "sets") (omega arith) (search arith)
+
+pub returns-in-rules : goal.returns-in-rules
+returns-in-rules c = spelled wanted_key c.args.word.now (codes "rules") (omega arith) (search arith)
+
+pub returns-in-store : goal.returns-in-store
+returns-in-store c = spelled wanted_key c.args.word.now (codes "store") (omega arith) (search arith)
