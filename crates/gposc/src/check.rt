@@ -1,7 +1,7 @@
 // `gposc check RULES`: reads a rule file, and says what it has.
 use crate::enter::enter_all;
 use anyhow::anyhow;
-use rulefile::{EntryKind, Error, RuleFile, StatementKind, parse};
+use rulefile::{Error, RuleFile, StatementKind, parse};
 use std::{fs, io};
 
 pub fn print_usage(rt: &HostRuntime) -> io::Result<()> {
@@ -26,52 +26,40 @@ pub fn check_file(rt: &HostRuntime, path: &str) -> anyhow::Result<()> {
             Err(anyhow!("no memory"))
         }
         Err(Error::Wrong(mistake)) => {
-            let line = mistake.line;
-            let text = mistake.fault.text();
-            eprintln!(rt; "{path}:{line}: {text}")?;
+            eprintln!(rt; "{path}:{mistake}")?;
             Err(anyhow!("the rule file is wrong"))
         }
     }
 }
 
-fn print_count(
-    rt: &HostRuntime,
-    file: &RuleFile,
-    kind: StatementKind,
-    word: &str,
-) -> io::Result<()> {
-    let count = file.count(kind);
-    println!(rt; "{word} {count}")
-}
+// The kinds of statements in the order in which their counts are printed.
+const KINDS: [StatementKind; 9] = [
+    StatementKind::Set,
+    StatementKind::Device,
+    StatementKind::Deltas,
+    StatementKind::Single,
+    StatementKind::Pair,
+    StatementKind::Class,
+    StatementKind::Break,
+    StatementKind::Build,
+    StatementKind::Ask,
+];
 
 // How many statements of each kind there are.
 fn print_counts(rt: &HostRuntime, file: &RuleFile) -> io::Result<()> {
-    print_count(rt, file, StatementKind::Set, "set")?;
-    print_count(rt, file, StatementKind::Device, "device")?;
-    print_count(rt, file, StatementKind::Deltas, "deltas")?;
-    print_count(rt, file, StatementKind::Single, "single")?;
-    print_count(rt, file, StatementKind::Pair, "pair")?;
-    print_count(rt, file, StatementKind::Class, "class")?;
-    print_count(rt, file, StatementKind::Break, "break")?;
-    print_count(rt, file, StatementKind::Build, "build")?;
-    print_count(rt, file, StatementKind::Ask, "ask")
-}
-
-fn kind_word(kind: EntryKind) -> &'static str {
-    match kind {
-        EntryKind::Set => "set",
-        EntryKind::Device => "device",
-        EntryKind::Deltas => "deltas",
+    for kind in KINDS {
+        let count = file.count(kind);
+        println!(rt; "{kind} {count}")?;
     }
+    Ok(())
 }
 
 // Each name, what it names, the line that gives it, and how many statements use it.
 fn print_names(rt: &HostRuntime, file: &RuleFile) -> io::Result<()> {
-    for at in 0..file.entries.len() {
-        let entry = &file.entries[at];
-        let kind = kind_word(entry.kind);
+    for (place, entry) in file.entries.iter().enumerate() {
+        let kind = entry.kind;
         let line = entry.line;
-        let uses = file.uses(at);
+        let uses = file.uses(place);
         match std::str::from_utf8(entry.name.as_slice()) {
             Ok(name) => println!(rt; "{kind} {name} line {line} used {uses}")?,
             Err(_) => println!(rt; "{kind} line {line} used {uses}")?,

@@ -15,14 +15,11 @@ fn main(rt: HostRuntime) -> anyhow::Result<()> {
         print_usage(&rt)?;
         return Ok(());
     };
-    match (words.next(), words.next()) {
-        (Some(path), None) => {
-            if command.as_str() == "check" {
-                return check_file(&rt, path.as_str());
-            }
+    match (command.as_str(), words.next(), words.next()) {
+        ("check", Some(path), None) => check_file(&rt, path.as_str()),
+        _ => {
+            print_usage(&rt)?;
+            Err(anyhow!("wrong words"))
         }
-        _ => {}
     }
-    print_usage(&rt)?;
-    Err(anyhow!("wrong words"))
 }

@@ -3,30 +3,23 @@
 
 mod show;
 
-use anyhow::anyhow;
 use rulefile::{Error, parse};
 use show::show_file;
 use std::alloc::{AllocError, Global};
 
 // The text of a case, with a line feed for each `;`.
 fn text_of(heap: Global, case: &[u8]) -> Result<Vec<u8>, AllocError> {
-    let mut text = Vec::new(heap);
-    for byte in case {
-        text.push(if *byte == b';' { b'\n' } else { *byte })?;
-    }
-    Ok(text)
+    case.iter()
+        .map(|byte| if *byte == b';' { b'\n' } else { *byte })
+        .collect(heap)
 }
 
 fn show_case(rt: &HostRuntime, case: &str) -> anyhow::Result<()> {
     let text = text_of(rt.alloc(), case.as_bytes())?;
     match parse(rt.alloc(), text.as_slice()) {
         Ok(file) => show_file(rt, &file)?,
-        Err(Error::Memory) => return Err(anyhow!("there is not enough memory")),
-        Err(Error::Wrong(mistake)) => {
-            let line = mistake.line;
-            let text = mistake.fault.text();
-            println!(rt; "{line}: {text}")?;
-        }
+        Err(Error::Wrong(mistake)) => println!(rt; "{mistake}")?,
+        Err(Error::Memory) => return Err(Error::Memory.into()),
     }
     Ok(())
 }

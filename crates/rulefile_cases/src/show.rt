@@ -1,48 +1,81 @@
 // Prints what a file says: how the lookup is opened, and the last statement.
 use rulefile::{
-    Lookup, LookupKind, Metric, Question, Record, Reference, RuleFile, SetReference, Statement,
-    Storage, StoreKind,
+    Lookup, Metric, Question, Record, Records, Reference, RuleFile, SetReference, Statement,
+    Storage,
 };
-use std::io;
+use std::{fmt, io};
 
-fn show_metric(rt: &HostRuntime, word: &str, metric: Option<Metric>) -> io::Result<()> {
-    let Some(metric) = metric else {
-        return Ok(());
-    };
-    let default = metric.default;
-    match metric.beside {
-        None => print!(rt; " {word}={default}"),
-        Some(Reference::DeviceNumber(n)) => print!(rt; " {word}={default}@device#{n}"),
-        Some(Reference::DeltasNumber(n)) => print!(rt; " {word}={default}@deltas#{n}"),
-        Some(Reference::Entered(entry)) => print!(rt; " {word}={default}@entry {entry}"),
+// A device or a delta list beside a metric.
+#[derive(Clone, Copy)]
+struct Beside(Reference);
+
+impl fmt::Display for Beside {
+    fn fmt<W: fmt::Write>(&self, f: &mut fmt::Formatter<W>) -> fmt::Result {
+        match self.0 {
+            Reference::DeviceNumber(n) => write!(f, "device#{n}"),
+            Reference::DeltasNumber(n) => write!(f, "deltas#{n}"),
+            Reference::Entered(entry) => write!(f, "entry {entry}"),
+        }
     }
+}
+
+// A set of a class rule.
+#[derive(Clone, Copy)]
+struct Set(SetReference);
+
+impl fmt::Display for Set {
+    fn fmt<W: fmt::Write>(&self, f: &mut fmt::Formatter<W>) -> fmt::Result {
+        match self.0 {
+            SetReference::SetNumber(n) => write!(f, "#{n}"),
+            SetReference::EnteredSet(entry) => write!(f, "entry {entry}"),
+        }
+    }
+}
+
+fn show_metric(rt: &HostRuntime, word: &str, metric: Metric) -> io::Result<()> {
+    let default = metric.default;
+    print!(rt; " {word}={default}")?;
+    if let Some(reference) = metric.beside {
+        let beside = Beside(reference);
+        print!(rt; "@{beside}")?;
+    }
+    Ok(())
 }
 
 fn show_record(rt: &HostRuntime, record: Record) -> io::Result<()> {
     print!(rt; " [")?;
-    show_metric(rt, "xadv", record.x_advance)?;
-    show_metric(rt, "yadv", record.y_advance)?;
-    show_metric(rt, "xpla", record.x_placement)?;
-    show_metric(rt, "ypla", record.y_placement)?;
+    let metrics = [
+        ("xadv", record.x_advance),
+        ("yadv", record.y_advance),
+        ("xpla", record.x_placement),
+        ("ypla", record.y_placement),
+    ];
+    for (word, metric) in metrics {
+        if let Some(metric) = metric {
+            show_metric(rt, word, metric)?;
+        }
+    }
     print!(rt; " ]")
 }
 
-fn show_set(rt: &HostRuntime, reference: SetReference) -> io::Result<()> {
-    match reference {
-        SetReference::SetNumber(n) => print!(rt; " #{n}"),
-        SetReference::EnteredSet(entry) => print!(rt; " entry {entry}"),
-    }
+fn show_records(rt: &HostRuntime, records: Records) -> io::Result<()> {
+    show_record(rt, records.first)?;
+    show_record(rt, records.second)
 }
 
 fn show_question(rt: &HostRuntime, question: Question) -> io::Result<()> {
-    let first = question.first;
-    let ppem = question.ppem;
+    let Question {
+        first,
+        second,
+        ppem,
+        region,
+    } = question;
     print!(rt; "ask {first}")?;
-    if let Some(second) = question.second {
+    if let Some(second) = second {
         print!(rt; " {second}")?;
     }
     print!(rt; " ppem {ppem}")?;
-    if let Some(region) = question.region {
+    if let Some(region) = region {
         print!(rt; " region {region}")?;
     }
     Ok(())
@@ -59,7 +92,7 @@ fn show_statement(rt: &HostRuntime, statement: &Statement) -> io::Result<()> {
         } => print!(rt; "device {entry} {first} {last} {values:?}"),
         Statement::Deltas { entry, deltas } => {
             print!(rt; "deltas {entry}")?;
-            for delta in deltas.iter() {
+            for delta in deltas {
                 let region = delta.region;
                 let value = delta.delta;
                 print!(rt; " {region}:{value}")?;
@@ -76,19 +109,17 @@ fn show_statement(rt: &HostRuntime, statement: &Statement) -> io::Result<()> {
             records,
         } => {
             print!(rt; "pair {first} {second}")?;
-            show_record(rt, records.first)?;
-            show_record(rt, records.second)
+            show_records(rt, *records)
         }
         Statement::Class {
             first,
             second,
             records,
         } => {
-            print!(rt; "class")?;
-            show_set(rt, *first)?;
-            show_set(rt, *second)?;
-            show_record(rt, records.first)?;
-            show_record(rt, records.second)
+            let first = Set(*first);
+            let second = Set(*second);
+            print!(rt; "class {first} {second}")?;
+            show_records(rt, *records)
         }
         Statement::Break => print!(rt; "break"),
         Statement::Build => print!(rt; "build"),
@@ -96,27 +127,26 @@ fn show_statement(rt: &HostRuntime, statement: &Statement) -> io::Result<()> {
     }
 }
 
-fn store_word(store: StoreKind) -> &'static str {
-    match store {
-        StoreKind::Flat => "flat",
-        StoreKind::Sharing => "sharing",
-        StoreKind::TrimFlat => "trim+flat",
-        StoreKind::TrimSharing => "trim+sharing",
-    }
-}
-
-fn show_storage(rt: &HostRuntime, s: Storage) -> io::Result<()> {
-    let (a, b, c, d) = (s.sets, s.set_pool, s.devices, s.device_pool);
-    let (e, f, g, h) = (s.deltas, s.delta_pool, s.rules, s.store);
-    print!(rt; "storage {a} {b} {c} {d} {e} {f} {g} {h} ")
+fn show_storage(rt: &HostRuntime, storage: Storage) -> io::Result<()> {
+    let Storage {
+        sets,
+        set_pool,
+        devices,
+        device_pool,
+        deltas,
+        delta_pool,
+        rules,
+        store,
+    } = storage;
+    print!(rt;
+        "storage {sets} {set_pool} {devices} {device_pool} {deltas} {delta_pool} {rules} {store} "
+    )
 }
 
 fn show_lookup(rt: &HostRuntime, lookup: Lookup) -> io::Result<()> {
+    let kind = lookup.kind;
     let flags = lookup.flags;
-    match lookup.kind {
-        LookupKind::Single => print!(rt; "lookup single {flags}")?,
-        LookupKind::Pair => print!(rt; "lookup pair {flags}")?,
-    }
+    print!(rt; "lookup {kind} {flags}")?;
     if let Some(n) = lookup.mark_set {
         print!(rt; " markset {n}")?;
     }
@@ -133,7 +163,7 @@ pub fn show_file(rt: &HostRuntime, file: &RuleFile) -> io::Result<()> {
         }
         None => {
             show_storage(rt, file.storage)?;
-            let store = store_word(file.store);
+            let store = file.store;
             print!(rt; "{store} ")?;
             show_lookup(rt, file.lookup)?;
         }
