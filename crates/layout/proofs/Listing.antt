@@ -1,7 +1,7 @@
 -- Glyphs with their classes: where one stands, and what is left of those listed as a span of glyphs is walked.
 use Rattle.std.proofs.Common.{◌≡◌, ℕ, ◌+◌, ◌-◌, ◌<◌, ◌≤◌, Bool, true, false, eqb, leb, List, [], ◌∷◌, map, length, get_or, drop, Some, None, Option, sym, refl, ap, ◌∙◌, subst, arith}
 use Rattle.std.proofs.lemmas.Bool.Decides.{nat_tests}
-use Rattle.std.proofs.lemmas.List.{length-map, at_drop_more, at_drop_all}
+use Rattle.std.proofs.lemmas.List.{length-map}
 use Rattle.spec.specs.Entries.{not_rising, unsorted}
 use Rattle.spec.specs.Classes.{class_at, last_from, span}
 use Rattle.laws.specs.Conditions.{Above, Rising}
@@ -28,36 +28,6 @@ ends_at (x ∷ cs) first last p q h =
 abbrev glyphs : List GlyphClass → List ℕ
 glyphs cs = map (λ p. p.0) (listed cs)
 
--- what is left to compare from place i on
-abbrev pub left_unsorted : List GlyphClass → ℕ → Option ℕ
-left_unsorted cs i = not_rising i (get_or cs (i - 1) none).glyph (map (λ p. p.0) (listed (drop i cs)))
-
-pub unsorted_all : (cs : List GlyphClass) → left_unsorted cs 1 ≡ unsorted (map (λ p. p.0) (listed cs))
-unsorted_all [] = refl
-unsorted_all (x ∷ cs) = refl
-
-module _ (cs : List GlyphClass) (i : ℕ) where
-  pub unsorted_here : i < length cs → (get_or cs i none).glyph ≤ (get_or cs (i - 1) none).glyph → left_unsorted cs i ≡ Some i
-  unsorted_here h l = at_drop_more (λ l. not_rising i (get_or cs (i - 1) none).glyph (map (λ p. p.0) (listed l))) cs i none h ∙ go (leb (get_or cs i none).glyph (get_or cs (i - 1) none).glyph) (grind (arith, nat_tests))
-    where
-      go : (b : Bool) → b ≡ true → ◌≡◌ {A = Option ℕ} (elim b [ true ↦ Some i | false ↦ not_rising (i + 1) (get_or cs i none).glyph (map (λ p. p.0) (listed (drop (i + 1) cs))) ]) (Some i)
-      go true p = refl
-      go false p = cc
-
-  pub unsorted_next : i < length cs → (get_or cs (i - 1) none).glyph < (get_or cs i none).glyph → left_unsorted cs i ≡ left_unsorted cs (i + 1)
-  unsorted_next h l =
-      let n : i + 1 - 1 ≡ i = omega arith in
-      at_drop_more (λ l. not_rising i (get_or cs (i - 1) none).glyph (map (λ p. p.0) (listed l))) cs i none h
-      ∙ go (leb (get_or cs i none).glyph (get_or cs (i - 1) none).glyph) (grind (arith, nat_tests))
-      ∙ ap (λ k. not_rising (i + 1) (get_or cs k none).glyph (map (λ p. p.0) (listed (drop (i + 1) cs)))) (sym n)
-    where
-      go : (b : Bool) → b ≡ false → ◌≡◌ {A = Option ℕ} (elim b [ true ↦ Some i | false ↦ not_rising (i + 1) (get_or cs i none).glyph (map (λ p. p.0) (listed (drop (i + 1) cs))) ]) (not_rising (i + 1) (get_or cs i none).glyph (map (λ p. p.0) (listed (drop (i + 1) cs))))
-      go true p = cc
-      go false p = refl
-
-  pub unsorted_none : length cs ≤ i → left_unsorted cs i ≡ None
-  unsorted_none h = at_drop_all (λ l. not_rising i (get_or cs (i - 1) none).glyph (map (λ p. p.0) (listed l))) cs i h
-
 rises : (i b : ℕ) (xs : List ℕ) → not_rising i b xs ≡ None → Above b xs
 rises i b [] e = tt
 rises i b (x ∷ xs) e = go (leb x b) refl e (rises (i + 1) x xs)
@@ -77,6 +47,11 @@ reach b (p ∷ ps) a = let h = reach p.0 ps a.1 in omega arith
 within_span : (ps : List (ℕ × ℕ)) → Rising (map (λ p. p.0) ps) → length ps ≤ span ps
 within_span [] r = omega arith
 within_span (p ∷ ps) r = let h = reach p.0 ps r in omega arith
+
+-- what the entries rise by are their glyphs
+pub keys_listed : (cs : List GlyphClass) → map (λ (e : GlyphClass). e.glyph) cs ≡ map (λ p. p.0) (listed cs)
+keys_listed [] = refl
+keys_listed (c ∷ cs) = ap (λ gs. c.glyph ∷ gs) (keys_listed cs)
 
 -- there are no more entries than glyphs in their span
 pub few : (cs : List GlyphClass) → unsorted (map (λ p. p.0) (listed cs)) ≡ None → length cs ≤ span (listed cs)

@@ -26,8 +26,8 @@ placed_placed b u p q h =
 placed_none : (b : List ℕ) (u : ℕ) → b ≡ placed b u []
 placed_none b u = let e : u + 0 ≡ u = omega arith in sym (ap (λ n. take u b ++ drop n b) e ∙ take-append-drop u b)
 
-after_none : (o : Output) → After o o []
-after_none o = record { used = omega arith; fits = omega arith; bytes = placed_none o.bytes.now o.used }
+after_none : (o : Output) → o.used ≤ length o.bytes.now → After o o []
+after_none o h = record { used = omega arith; fits = omega arith; bytes = placed_none o.bytes.now o.used }
 
 after_then : {o o1 o2 : Output} {p q : List ℕ} → After o o1 p → After o1 o2 q → After o o2 (p ++ q)
 after_then {o} {o1} {o2} {p} {q} a b =
@@ -48,8 +48,8 @@ pub record Midway (o o' : Output) (left whole : List ℕ) : Type 0 where
   pub finished : o'.finished ≡ o.finished
   pub after : After o o' done
 
-pub begin : (o : Output) (whole : List ℕ) → Midway o o whole whole
-begin o whole = record { done = []; joins = refl; lent = refl; len = refl; finished = refl; after = after_none o }
+pub begin : (o : Output) (whole : List ℕ) → o.used ≤ length o.bytes.now → Midway o o whole whole
+begin o whole h = record { done = []; joins = refl; lent = refl; len = refl; finished = refl; after = after_none o h }
 
 -- the same, with what is left said otherwise
 pub again : {o o' : Output} {left whole : List ℕ} → Midway o o' left whole → (left' : List ℕ) → left ≡ left' → Midway o o' left' whole

@@ -23,7 +23,7 @@ use Rattle.layout.proofs.Words.{words_length, count_is}
 
 -- one piece behind another
 pub both : {o o1 o2 : Output} {X Y : Type 0} {y : Y} (r : Result X Denial) (p q : List ℕ) → Wrote {X = Y} (Ok y) o o1 p → Wrote r o1 o2 q → Wrote r o o2 (p ++ q)
-both {o} r p q w v = last (more (begin o (p ++ q)) p q refl w) r v
+both {o} r p q w v = last (more (begin o (p ++ q) (omega (arith, w.cases.fits))) p q refl w) r v
 
 pub puts : {o o' : Output} {X : Type 0} (f : Option fault_of.Denial) (r : Result X Denial) (part whole : List ℕ) → f ≡ None → part ≡ whole → Wrote r o o' part → Puts f r o o' whole
 puts {o} {o'} f r part whole e p w = subst (λ g. Puts g r o o' whole) (sym e) (subst (λ q. Wrote r o o' q) p w)

@@ -10,13 +10,14 @@ ghost use Rattle.layout.specs.Faults.{Shaped, class_count, class_fault};
 ghost use Rattle.layout.specs.Listing.{listed};
 ghost use Rattle.layout.specs.Described.{table_fields};
 
-use crate::glyph_class::{GlyphClass, first_and_span, first_unsorted, write_array};
+use crate::glyph_class::{GlyphClass, first_and_span, write_array};
 use crate::output::Output;
 use crate::ranges::{count_ranges, write_ranges};
 use crate::reading::FontData;
 use crate::shape::{Shape, count_field};
 use crate::write::{FontRead, FontWrite};
 use denials::denial::{Denial, Part, Word};
+use storage::rising::first_unsorted;
 
 // The class in an array of classes, the glyph of the first before them.
 fn class_in_array(table: &FontData<'_>, glyph: u16) -> Result<u16, usize>
@@ -54,7 +55,7 @@ pub struct ClassDef<'a> {
 
 impl ClassDef<'_> {
     // Its shape, or why the table cannot be written: glyphs that do not rise, or a count above 65,535.
-    #[tactic(auto, using(crate::proofs::Listing::few))]
+    #[tactic(auto, using(crate::proofs::Listing::few, crate::proofs::Listing::keys_listed))]
     fn shape(&self) -> Result<Shape, Denial>
         ensures shaped { Shaped result (class_fault (listed self.now.classes.now)) (class_format (listed self.now.classes.now)) (class_count (listed self.now.classes.now)) }
         ensures few { OnOk result (length self.now.classes.now ≤ 65536) }

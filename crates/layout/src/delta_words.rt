@@ -150,6 +150,7 @@ pub(crate) fn write_words(
     values: &[i8],
     format: DeltaFormat,
 ) -> Result<(), Denial>
+    requires { out.old.used ≤ length out.old.bytes.now }
     ensures { Wrote result out.old out.new (big_endian (words_in (number format) values.now)) }
 {
     for chunk in values.chunks(format.per_word() as usize) {

@@ -2,7 +2,6 @@
 
 ghost use Rattle.std.specs.Prelude.{◌≡◌, ℕ, ◌^◌, ◌<◌, ◌≤◌, List, map, length, drop};
 ghost use Rattle.spec.specs.Fields.{big_endian};
-ghost use Rattle.spec.specs.Entries.{unsorted};
 ghost use Rattle.spec.specs.Classes.{first_listed, class_array};
 ghost use Rattle.spec.specs.Classes.{span as span_of};
 ghost use Rattle.laws.specs.Conditions.{Rising};
@@ -11,6 +10,7 @@ ghost use Rattle.layout.specs.Listing.{listed, here};
 
 use crate::output::Output;
 use denials::denial::Denial;
+use storage::rising::Keyed;
 
 // A glyph with its class.
 #[derive(Clone, Copy, Debug, PartialEq, Eq)]
@@ -19,16 +19,12 @@ pub struct GlyphClass {
     pub class: u16,
 }
 
-// The first place whose glyph is not above the one before it.
-pub(crate) fn first_unsorted(classes: &[GlyphClass]) -> Option<usize>
-    ensures { result ≡ unsorted (map (λ p. p.0) (listed classes.now)) }
-{
-    for i in 1..classes.len() {
-        if classes[i].glyph <= classes[i - 1].glyph {
-            return Some(i);
-        }
+impl Keyed for GlyphClass {
+    ghost key = { λ entry. entry.glyph };
+
+    fn key(&self) -> u16 {
+        self.glyph
     }
-    None
 }
 
 // The first glyph, and how many there are from it to the last.
@@ -59,7 +55,8 @@ fn class_here(classes: &[GlyphClass], glyph: usize) -> (u16, &[GlyphClass])
 
 // Writes the class of each glyph of the span, 0 for those that are not listed.
 pub(crate) fn write_array(out: &mut Output<'_>, classes: &[GlyphClass]) -> Result<(), Denial>
-    requires { Rising (map (λ p. p.0) (listed classes.now)) }
+    requires rises { Rising (map (λ p. p.0) (listed classes.now)) }
+    requires in_bounds { out.old.used ≤ length out.old.bytes.now }
     ensures { Wrote result out.old out.new (big_endian (class_array (listed classes.now))) }
 {
     let (first, span) = first_and_span(classes);

@@ -1,16 +1,19 @@
 // The guard over the output bytes of a write: fields go out through it, and unless it was marked finished its end zeroes the whole
 // output, on every way out.
 
-ghost use Rattle.std.specs.Prelude.{◌≡◌, ◌≤◌, false, [], ◌∷◌, length, replicate, if◌then◌else◌};
+ghost use Rattle.std.specs.Prelude.{◌≡◌, ◌<◌, ◌≤◌, false, [], ◌∷◌, length, replicate, if◌then◌else◌, OnOk, IfErr};
+ghost use Rattle.spec.specs.Denials as fault_of;
+ghost use Rattle.spec.specs.Denials.{arises};
 ghost use Rattle.spec.specs.Fields.{big_endian};
+ghost use Rattle.denials.specs.Denials.{denial_of};
 
 use denials::denial::{Denial, Part, Word};
 
+// No fact of the type ties `used` to the bytes, since whoever sets the public fields would have to show it: a write beyond is denied.
 pub struct Output<'a> {
     pub bytes: &'a mut [u8],
     pub used: usize,
     pub finished: bool,
-    pub ghost in_bounds: { used ≤ length bytes.now },
 }
 
 impl Drop for Output<'_> {
@@ -48,12 +51,23 @@ impl<'a> Output<'a> {
     pub fn field(&mut self, value: u16) -> Result<(), Denial>
         ensures { Wrote result self.old self.new (big_endian (value ∷ [])) }
     {
-        if self.bytes.len() - self.used < 2 {
-            let needed = self.used.saturating_add(2);
-            return Err(Denial::new(Word::ShortOutput, needed, Part::Writer));
+        let end = self.used.saturating_add(2);
+        if end > self.bytes.len() || end - self.used < 2 {
+            return Err(Denial::new(Word::ShortOutput, end, Part::Writer));
         }
-        self.bytes[self.used..self.used + 2].copy_from_slice(&value.to_be_bytes());
-        self.used += 2;
+        self.bytes[self.used..end].copy_from_slice(&value.to_be_bytes());
+        self.used = end;
+        Ok(())
+    }
+
+    // Denies a write that begins beyond the bytes.
+    pub(crate) fn check(&self) -> Result<(), Denial>
+        ensures ok { OnOk result (self.now.used ≤ length self.now.bytes.now) }
+        ensures err { IfErr result (λ d. (denial_of d ≡ arises fault_of.short_output self.now.used fault_of.writer) × (length self.now.bytes.now < self.now.used)) }
+    {
+        if self.used > self.bytes.len() {
+            return Err(Denial::new(Word::ShortOutput, self.used, Part::Writer));
+        }
         Ok(())
     }
 
@@ -61,6 +75,7 @@ impl<'a> Output<'a> {
     pub fn fields(&mut self, values: &[u16]) -> Result<(), Denial>
         ensures { Wrote result self.old self.new (big_endian values.now) }
     {
+        self.check()?;
         for value in values {
             self.field(*value)?;
         }

@@ -109,7 +109,8 @@ pub(crate) fn count_ranges<T: Listed>(entries: &[T]) -> usize
 
 // Writes the ranges: start, end and third field of each.
 pub(crate) fn write_ranges<T: Listed>(out: &mut Output<'_>, entries: &[T]) -> Result<(), Denial>
-    requires { length entries.now ≤ 65536 }
+    requires few { length entries.now ≤ 65536 }
+    requires in_bounds { out.old.used ≤ length out.old.bytes.now }
     ensures { Wrote result out.old out.new (big_endian (record_fields T.third 0 (ranges (map T.listed entries.now)))) }
 {
     let mut index = 0;

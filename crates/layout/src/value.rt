@@ -24,6 +24,7 @@ pub fn encoded_size(format: u16) -> usize
 pub fn write_value(out: &mut Output<'_>, format: u16, fields: &[u16; 8]) -> Result<(), Denial>
     ensures { Wrote result out.old out.new (big_endian (present format fields.now)) }
 {
+    out.check()?;
     for (bit, value) in FIELDS.iter().zip(fields) {
         if format & bit != 0 {
             out.field(*value)?;

@@ -15,14 +15,6 @@ module _ {A : Type 0} (eq : A → A → Bool) (x : A) where
   any_of : (y : A) (ys : List A) (b : Bool) → eq y x ≡ b → any (λ z. eq z x) (y ∷ ys) ≡ (b || any (λ z. eq z x) ys)
   any_of y ys b h = ap (λ t. t || any (λ z. eq z x) ys) h
 
-  le_by : (y : A) (ys : List A) → number_in eq ys x ≤ length ys → (b : Bool) → eq y x ≡ b → number_in eq (y ∷ ys) x ≤ suc (length ys)
-  le_by y ys r true h = let e : number_in eq (y ∷ ys) x ≡ 0 = number_hit y ys h in omega arith
-  le_by y ys r false h = let e : number_in eq (y ∷ ys) x ≡ suc (number_in eq ys x) = number_miss y ys h in omega arith
-
-  pub number_le : (ys : List A) → number_in eq ys x ≤ length ys
-  number_le [] = omega arith
-  number_le (y ∷ ys) = le_by y ys (number_le ys) (eq y x) refl
-
   -- a number below the length says that the entry is there, and no other does
   old_by : (y : A) (ys : List A) → (number_in eq ys x < length ys → any (λ z. eq z x) ys ≡ true) → number_in eq (y ∷ ys) x < suc (length ys) → (b : Bool) → eq y x ≡ b → any (λ z. eq z x) (y ∷ ys) ≡ true
   old_by y ys r l true h = any_of y ys true h

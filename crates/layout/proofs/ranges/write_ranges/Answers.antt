@@ -6,7 +6,7 @@ use Rattle.layout.proofs.ranges.write_ranges.Goals as goal
 
 pub loop-range-init : goal.loop-range-init
 loop-range-init g c = record {
-  written = again (begin c.args.out.now _) _ (fields_all g.T.Listed.listed c.args.entries.now c.into_iter-range-iterator.result (search rules) (search rules) g.T.Listed.third);
+  written = again (begin c.args.out.now _ (search rules)) _ (fields_all g.T.Listed.listed c.args.entries.now c.into_iter-range-iterator.result (search rules) (search rules) g.T.Listed.third);
   covers = covers_all g.T.Listed.listed c.args.entries.now c.into_iter-range-iterator.result (search rules) (search rules);
 }
 

@@ -3,8 +3,8 @@ use Rattle.layout.proofs.Whole.{both, puts}
 use Rattle.layout.proofs.ClassDefs.{class_rises, array_pieces, range_pieces}
 use Rattle.layout.proofs.class_def.ClassDefFontWrite.write_into.Goals as goal
 
-pub write_array-requires : goal.write_array-requires
-write_array-requires c = class_rises (listed c.args.self.now.classes.now) c.in_ok-count.ensures.shaped.0
+pub write_array-requires-clause-rises : goal.write_array-requires-clause-rises
+write_array-requires-clause-rises c = class_rises (listed c.args.self.now.classes.now) c.in_ok-count.ensures.shaped.0
 
 pub returns-in_ok-fields-in-Array : goal.returns-in_ok-fields-in-Array
 returns-in_ok-fields-in-Array c =
