@@ -25,7 +25,8 @@ pub enum Word {
 }
 
 impl Word {
-    // Its number in the table of answers; 0 is that of an accepted call.
+    // Its number in the table of answers; 0 is that of an accepted call. This table and those of the texts stand written out, so that each
+    // row is held against the rules.
     pub fn number(self) -> u8
         ensures { result ≡ number (word_of self) }
     {

@@ -55,7 +55,7 @@ fn bring<T: Copy + Default, H: Copy + Default>(
     Ok((pool, table))
 }
 
-// The deltas of a statement as the part takes them.
+// The deltas of a statement as the part takes them: no `From`, since both types are other crates'.
 fn deltas_of(heap: Global, list: &[rulefile::Delta]) -> Result<Vec<Delta>, AllocError>
     ensures { IfOk result (λ v. v.items ≡ map (λ d. record { region = d.region; delta = d.delta }) list.now) }
 {

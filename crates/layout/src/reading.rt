@@ -5,6 +5,7 @@ ghost use Rattle.spec.specs.Fields.{field};
 ghost use Rattle.spec.specs.Meaning.{covered_by_glyphs};
 ghost use Rattle.layout.specs.Headers.{three_fields, range_of};
 
+// A position is a number and no error type: it says which field was needed, and that is all that a fault tells.
 // The field that begins at a byte position, or that position if the field does not lie whole inside.
 pub fn field_at(bytes: &[u8], at: usize) -> Result<u16, usize>
     ensures { result ≡ field bytes.now at }

@@ -12,7 +12,7 @@ use denials::denial::Denial;
 // The bit of each field: x and y placement, x and y advance, then their devices.
 const FIELDS: [u16; 8] = [0x01, 0x02, 0x04, 0x08, 0x10, 0x20, 0x40, 0x80];
 
-// The bytes of a record in a value format: two for each one in it.
+// The bytes of a record in a value format: two for each one in it. A value format stays a number: it is a set of bits, and no kind.
 pub fn encoded_size(format: u16) -> usize
     ensures value { result ≡ encoded_size format }
     ensures bound { result ≤ 32 }

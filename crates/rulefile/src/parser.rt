@@ -49,6 +49,7 @@ fn read_rule(
 ) -> Result<Statement, Fault>
     ensures { result ≡ rule_of (names_in names.now) kind rule (words_in words.now) }
 {
+    // No switch on a step: each pair is a sentence of the file format, and the contract says it case by case.
     match (rule, kind) {
         (RuleKind::Single, LookupKind::Single) => read_single(names, words),
         (RuleKind::Single, LookupKind::Pair) => Err(Fault::SingleOnly),
@@ -97,6 +98,7 @@ impl Parser {
         Ok(())
     }
 
+    // Beside `take_storage`, from which it differs in the field and in what reads it: a function over both is longer than this.
     fn take_store(&mut self, words: &[&[u8]]) -> Result<(), Stop>
         ensures { Answered (λ _. state_of self.new) result (store_step (state_of self.old) (words_in words.now)) }
     {

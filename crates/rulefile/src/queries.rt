@@ -53,7 +53,7 @@ impl Statement {
         }
     }
 
-    // Whether it is of a kind.
+    // Whether it is of a kind. A function of its own: with `==` in the closure of `count` the proof of that did not close.
     fn is(&self, kind: StatementKind) -> bool
         ensures { result ≡ is_kind kind (said self.now) }
     {

@@ -62,7 +62,8 @@ fn read_places(word: &[u8]) -> Result<u32, Fault>
     unsigned(word, u32::MAX).ok_or(Fault::StorageNumber)
 }
 
-// The keys with one more, unless it is there.
+// The keys with one more, unless it is there. Beside `with_metric`, which is no twin to be joined: a trait that lends the field of a key
+// would be longer than both.
 fn with_key(mut given: GivenKeys, key: StorageKey, places: u32) -> Result<GivenKeys, Fault>
     ensures { result ≡ with_key given key places }
 {

@@ -12,8 +12,9 @@ use crate::span::Span;
 use denials::denial::{Denial, Part, Word};
 use std::marker::Model;
 
-// The first `used` places of the table are spans of the first `filled` elements of the pool, one after another.
-#[derive(Drop)]
+// The first `used` places of the table are spans of the first `filled` elements of the pool, one after another. Two slices with their
+// counts and no `Vec` or map: the libraries allocate nothing, and the caller brings the memory.
+#[derive(Debug, Drop)]
 pub struct Interner<'a, T: Exact, H: Exact> {
     pool: &'a mut [T],
     table: &'a mut [Span<H>],

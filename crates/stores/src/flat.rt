@@ -13,7 +13,7 @@ use crate::store::VariationStore;
 use denials::denial::Denial;
 use storage::delta::Delta;
 
-#[derive(Drop)]
+#[derive(Debug, Drop)]
 pub struct FlatStore<'a> {
     lists: Places<'a>,
 }

@@ -58,8 +58,8 @@ impl Place {
     }
 }
 
-// The first `used` places hold a list.
-#[derive(Drop)]
+// The first `used` places hold a list: a slice and a count, since the caller brings the memory.
+#[derive(Debug, Drop)]
 pub(crate) struct Places<'a> {
     places: &'a mut [Place],
     used: usize,
@@ -120,10 +120,10 @@ impl<'a> Places<'a> {
         ensures { Asked flat self.now id region (told result) }
     {
         let id = id as usize;
-        match self.held().get(id) {
-            Some(place) => Ok(delta_at(place.list(), region)),
-            None => Err(Denial::new(Word::UnknownId, id, Part::Store)),
-        }
+        self.held()
+            .get(id)
+            .map(|place| delta_at(place.list(), region))
+            .ok_or(Denial::new(Word::UnknownId, id, Part::Store))
     }
 
     // Puts the list into the next place.

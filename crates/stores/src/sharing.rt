@@ -13,7 +13,8 @@ use crate::store::VariationStore;
 use denials::denial::Denial;
 use storage::delta::Delta;
 
-#[derive(Drop)]
+// Beside the flat store, since the two differ in a step of `add` and in what they mean, and in no type or number: `Places` is what they share.
+#[derive(Debug, Drop)]
 pub struct SharingStore<'a> {
     lists: Places<'a>,
 }
@@ -39,10 +40,10 @@ impl<'a> VariationStore for SharingStore<'a> {
         ensures same { sharing_add (sharing_rows self.old) (deltas_of list.now) ≡ (sharing_rows self.new, told result) }
     {
         check(list)?;
-        match self.lists.find(list) {
-            Some(id) => Ok(id),
-            None => self.lists.take_place(list),
+        if let Some(id) = self.lists.find(list) {
+            return Ok(id);
         }
+        self.lists.take_place(list)
     }
 
     fn delta(&self, id: u32, region: u16) -> Result<i16, Denial> {

@@ -13,7 +13,7 @@ use denials::denial::Denial;
 use storage::delta::Delta;
 use storage::faults::MOST_ENTRIES;
 
-#[derive(Drop)]
+#[derive(Debug, Drop)]
 pub struct TrimLayer<S> {
     below: S,
 }

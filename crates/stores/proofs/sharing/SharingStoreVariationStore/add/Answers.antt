@@ -14,8 +14,8 @@ returns-in-Some-clause-added c =
     let same : sharing_add (sharing_rows s) l ≡ (sharing_rows s, Ok c.in-Some.id) = search rules in
     sharing_does s s l (Ok c.in-Some.id) c.find.ensures.within same
 
-pub returns-in-None-clause-added : goal.returns-in-None-clause-added
-returns-in-None-clause-added c =
+pub returns-clause-added : goal.returns-clause-added
+returns-clause-added c =
     let s = c.args.self.now in
     let t : SharingStore = record { lists = c.take_place.new.self } in
     let l = deltas_of c.args.list.now in
