@@ -1,6 +1,6 @@
 // Device values in words: how wide they are, how they are packed, and the value at a place of a word.
 
-ghost use Rattle.std.specs.Prelude.{◌≡◌, ◌+◌, ◌*◌, ◌^◌, ◌<◌, ◌≤◌, length};
+ghost use Rattle.std.specs.Prelude.{Some, ◌≡◌, ◌+◌, ◌*◌, ◌^◌, ◌<◌, ◌≤◌, length};
 ghost use Rattle.spec.specs.Lists.{Every};
 ghost use Rattle.spec.specs.Fields.{big_endian, bits_of, signed};
 ghost use Rattle.spec.specs.Devices.{needed_format, delta_format, width, per_word, pack, unpack};
@@ -8,7 +8,7 @@ ghost use Rattle.laws.specs.Conditions.{Within};
 ghost use Rattle.layout.specs.Widths.{Wide};
 ghost use Rattle.layout.specs.Writing.{Wrote};
 ghost use Rattle.layout.specs.Faults.{words_in};
-ghost use Rattle.layout.specs.DeltaFormats.{number, Decodes};
+ghost use Rattle.layout.specs.DeltaFormats.{number, Decodes, unknown_text};
 
 use crate::output::Output;
 use denials::denial::Denial;
@@ -125,8 +125,11 @@ impl TryFrom<u16> for DeltaFormat {
 }
 
 impl fmt::Display for UnknownDeltaFormat {
+    ghost output = { λ e. Some (unknown_text e.0) };
+
     fn fmt<W: fmt::Write>(&self, f: &mut fmt::Formatter<W>) -> fmt::Result {
-        write!(f, "no delta format has number {}", self.0)
+        let number = self.0;
+        write!(f, "no delta format has number {number}")
     }
 }
 

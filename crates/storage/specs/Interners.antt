@@ -2,6 +2,7 @@
 use Rattle.std.specs.Prelude.{◌≡◌, ℕ, ◌+◌, ◌≤◌, Bool, true, ◌&&◌, List, [], ◌∷◌, length, take, drop, Option, Result, ◌==◌}
 use Rattle.std.specs.Cmp.Lexicographic.{pointwise}
 use Rattle.spec.specs.Denials.{Word, Denial, Answer, arises, when}
+use Rattle.spec.specs.Lists.{sum_of}
 use Rattle.spec.specs.Rules.{interned, number_in, overfull}
 use Rattle.denials.specs.declared.denial.Denial as code_denial
 use Rattle.denials.specs.declared.denial.Part as code_part
@@ -21,6 +22,12 @@ pub record Interned (T H : Type 0) : Type 0 where
   pub places : ℕ
   pub room : ℕ
   pub part : code_part.Part
+
+-- what is true of every interner: its entries are no more than it can hold, and so are their lists together
+pub record IsWithin {T H : Type 0} (d : Interned T H) : Type 0 where
+  pub entries : length d.contents ≤ d.places
+  pub few_places : d.places ≤ 65535
+  pub elements : sum_of (λ (e : H × List T). length e.1) d.contents ≤ d.room
 
 module _ {T H : Type 0} where
   -- an entry: what stands beside a list, and the list

@@ -5,7 +5,7 @@ ghost use Rattle.std.specs.Prelude.{◌≡◌, min, [], length};
 ghost use Rattle.std.specs.List.{position};
 ghost use Rattle.std.specs.Option.{option_map};
 ghost use Rattle.spec.specs.Lists.{at};
-ghost use Rattle.storage.specs.Interners.{Entered, same_entry};
+ghost use Rattle.storage.specs.Interners.{Entered, IsWithin, same_entry};
 
 use crate::exact::Exact;
 use crate::span::Span;
@@ -15,7 +15,7 @@ use std::marker::Model;
 // The first `used` places of the table are spans of the first `filled` elements of the pool, one after another. Two slices with their
 // counts and no `Vec` or map: the libraries allocate nothing, and the caller brings the memory.
 #[derive(Debug, Drop)]
-pub struct Interner<'a, T: Exact, H: Exact> {
+pub struct Interner<'a, T, H> {
     pool: &'a mut [T],
     table: &'a mut [Span<H>],
     part: Part,
@@ -23,7 +23,7 @@ pub struct Interner<'a, T: Exact, H: Exact> {
     filled: usize,
 }
 
-impl<'a, T: Exact, H: Exact> Model for Interner<'a, T, H> {
+impl<'a, T, H> Model for Interner<'a, T, H> {
     ghost use Rattle.std.specs.Prelude.{map, length, take};
     ghost use Rattle.storage.specs.Interners.{Interned, IsLaid, entry};
 
@@ -59,7 +59,8 @@ impl<'a, T: Exact, H: Exact> Interner<'a, T, H> {
 
     // How many lists there are.
     pub fn len(&self) -> usize
-        ensures { result ≡ length self.now.contents }
+        ensures value { result ≡ length self.now.contents }
+        ensures within { IsWithin self.now }
     {
         self.used
     }

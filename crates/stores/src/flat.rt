@@ -1,8 +1,8 @@
 // A store that recognises no list: each list that is added gets an id of its own.
 
 ghost use Rattle.std.specs.Prelude.{◌≡◌, min, [], length};
-ghost use Rattle.spec.specs.Stores.{Added, Fresh};
-ghost use Rattle.spec.specs.StoreModels.{flat_add};
+ghost use Rattle.spec.specs.Stores.{Added, Asked, Fresh};
+ghost use Rattle.spec.specs.StoreModels.{Within, flat_add};
 ghost use Rattle.storage.specs.Deltas.{deltas_of};
 ghost use Rattle.stores.specs.Answers.{told};
 ghost use Rattle.stores.specs.Meanings.{flat_rows, flat_store, flat_store_laws};
@@ -42,7 +42,10 @@ impl<'a> VariationStore for FlatStore<'a> {
         self.lists.take_place(list)
     }
 
-    fn delta(&self, id: u32, region: u16) -> Result<i16, Denial> {
+    fn delta(&self, id: u32, region: u16) -> Result<i16, Denial>
+        ensures asked { Asked flat_store self.now id region (told result) }
+        ensures within { Within (flat_rows self.now) }
+    {
         self.lists.delta(id, region)
     }
 }

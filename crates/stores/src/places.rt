@@ -117,7 +117,8 @@ impl<'a> Places<'a> {
 
     // The delta that an id has at a region.
     pub fn delta(&self, id: u32, region: u16) -> Result<i16, Denial>
-        ensures { Asked flat self.now id region (told result) }
+        ensures asked { Asked flat self.now id region (told result) }
+        ensures within { Within self.now }
     {
         let id = id as usize;
         self.held()

@@ -1,8 +1,8 @@
 // A store that recognises every list it holds: lists that are alike share the lowest id.
 
 ghost use Rattle.std.specs.Prelude.{◌≡◌, min, [], length};
-ghost use Rattle.spec.specs.Stores.{Added, Fresh};
-ghost use Rattle.spec.specs.StoreModels.{sharing_add};
+ghost use Rattle.spec.specs.Stores.{Added, Asked, Fresh};
+ghost use Rattle.spec.specs.StoreModels.{Within, sharing_add};
 ghost use Rattle.storage.specs.Deltas.{deltas_of};
 ghost use Rattle.stores.specs.Answers.{told};
 ghost use Rattle.stores.specs.Meanings.{sharing_rows, sharing_store, sharing_store_laws};
@@ -46,7 +46,10 @@ impl<'a> VariationStore for SharingStore<'a> {
         self.lists.take_place(list)
     }
 
-    fn delta(&self, id: u32, region: u16) -> Result<i16, Denial> {
+    fn delta(&self, id: u32, region: u16) -> Result<i16, Denial>
+        ensures asked { Asked sharing_store self.now id region (told result) }
+        ensures within { Within (sharing_rows self.now) }
+    {
         self.lists.delta(id, region)
     }
 }

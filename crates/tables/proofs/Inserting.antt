@@ -65,7 +65,7 @@ module _ {K V : Type 0} {c : K → K → Ordering} where
         let n = length_stored in
         let a = s.in_rows in
         let b = s.in_order in
-        record { rising = s.rising; in_places = omega arith }
+        record { rising = s.rising; in_places = omega arith; few_places = omega arith }
 
     -- the table t of these fields, and a place in it where a new key would stand
     module _ (t : Contents K V) (e : contents rows order used ≡ t) where

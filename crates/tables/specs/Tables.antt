@@ -85,6 +85,7 @@ module _ {K V : Type 0} where
     pub record IsOrdered (t : Contents K V) : Type 0 where
       pub rising : rises t.pairs ≡ true
       pub in_places : length t.pairs ≤ t.most
+      pub few_places : t.most ≤ 65535
 
     -- so many rows are used, and their numbers stand in the order of their keys
     pub record IsStored (rows : List (K × V)) (order : List ℕ) (used : ℕ) : Type 0 where

@@ -13,14 +13,14 @@ use std::marker::Model;
 
 // Two slices and a count, no `Vec` or map: the libraries allocate nothing, and the caller brings the memory.
 #[derive(Debug, Drop)]
-pub struct OrderedTable<'a, K: Ord + Copy, V: Copy> {
+pub struct OrderedTable<'a, K: Ord, V> {
     rows: &'a mut [(K, V)],
     order: &'a mut [u16],
     used: u16,
 }
 
 // A clause sees the pairs in key order, and how many there can be.
-impl<'a, K: Ord + Copy, V: Copy> Model for OrderedTable<'a, K, V> {
+impl<'a, K: Ord, V> Model for OrderedTable<'a, K, V> {
     ghost use Rattle.tables.specs.Tables.{Contents, contents, IsStored};
 
     ghost Value = { Contents K V };
