@@ -9,42 +9,27 @@ use std::fmt;
 
 #[derive(Clone, Copy, Debug, PartialEq, Eq)]
 pub enum Word {
-    BadSet,
-    BadDevice,
-    BadDeltas,
-    UnknownEntry,
-    Full,
-    NoSection,
-    BadFlags,
-    StoreFull,
-    TooMany,
-    TooFar,
-    ShortOutput,
-    BrokenTable,
-    UnknownId,
+    BadSet = 1,
+    BadDevice = 2,
+    BadDeltas = 3,
+    UnknownEntry = 4,
+    Full = 5,
+    NoSection = 6,
+    BadFlags = 7,
+    StoreFull = 8,
+    TooMany = 9,
+    TooFar = 10,
+    ShortOutput = 11,
+    BrokenTable = 12,
+    UnknownId = 13,
 }
 
 impl Word {
-    // Its number in the table of answers; 0 is that of an accepted call. This table and those of the texts stand written out, so that each
-    // row is held against the rules.
+    // Its number in the table of answers; 0 is that of an accepted call.
     pub fn number(self) -> u8
         ensures { result ≡ number (word_of self) }
     {
-        match self {
-            Word::BadSet => 1,
-            Word::BadDevice => 2,
-            Word::BadDeltas => 3,
-            Word::UnknownEntry => 4,
-            Word::Full => 5,
-            Word::NoSection => 6,
-            Word::BadFlags => 7,
-            Word::StoreFull => 8,
-            Word::TooMany => 9,
-            Word::TooFar => 10,
-            Word::ShortOutput => 11,
-            Word::BrokenTable => 12,
-            Word::UnknownId => 13,
-        }
+        self as u8
     }
 
     pub fn text(self) -> &'static str

@@ -46,12 +46,7 @@ fn bring<T: Copy + Default, H: Copy + Default>(
     ensures { IfOk result (λ r. (vec_len r.0 ≡ elements) × (vec_len r.1 ≡ places)) }
 {
     let pool = vec![in heap; T::default(); elements as usize]?;
-    let empty = Span {
-        start: 0,
-        len: 0,
-        head: H::default(),
-    };
-    let table = vec![in heap; empty; places as usize]?;
+    let table = vec![in heap; Span::default(); places as usize]?;
     Ok((pool, table))
 }
 
@@ -67,6 +62,7 @@ fn deltas_of(heap: Global, list: &[rulefile::Delta]) -> Result<Vec<Delta>, Alloc
         .collect(heap)
 }
 
+// The three below stay apart: a bound on a closure over `&mut Interner` is refused, so that each makes its interner and lends it.
 fn enter_sets(rt: &HostRuntime, file: &RuleFile) -> anyhow::Result<()> {
     let storage = file.storage;
     let (mut pool, mut table) = bring(rt.alloc(), storage.set_pool, storage.sets)?;

@@ -5,7 +5,7 @@ ghost use Rattle.spec.specs.Promise.{single_pos, pair_pos};
 ghost use Rattle.laws.specs.Made.{RunsMake};
 ghost use Rattle.laws.specs.Whole.{BytesAnswer, RunsAnswer};
 
-// A variation store, known by its meaning.
+// A variation store, known by its meaning alone: the trait of that name in `stores`, which has the calls, stands above this crate.
 pub trait VariationStore {
     ghost store: { Store Self };
 

@@ -33,7 +33,7 @@ pub fn read_coverage(bytes: &[u8], at: u32, glyph: u16) -> Result<Option<u32>, u
     }
 }
 
-// Glyphs, of which each is found at its place. They rise.
+// Glyphs, of which each is found at its place. They should rise, which nothing asks for here.
 #[derive(Clone, Copy, Debug, PartialEq, Eq)]
 pub struct CoverageTable<'a> {
     pub glyphs: &'a [u16],

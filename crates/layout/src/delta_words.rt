@@ -135,7 +135,7 @@ impl fmt::Display for UnknownDeltaFormat {
 
 impl Error for UnknownDeltaFormat {}
 
-// The widest wins.
+// The delta format of a device: that of its widest value.
 pub fn delta_format(values: &[i8]) -> DeltaFormat
     ensures value { number result ≡ delta_format values.now }
     ensures fit { Every (Within 128) values.now }

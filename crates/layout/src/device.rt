@@ -73,6 +73,7 @@ impl FontRead for Device<'_> {
     fn reads_back(&self)
         ensures { (bs : List ℕ) (at q : ℕ) → device_fault self.now.first_size (length self.now.values.now) ≡ None → Stand bs at (device_fields (described self.now)) → beside bs q at ≡ Ok (value_at (described self.now) q, no_id) }
     {
+        // Called for its clause, that the values are in range.
         let _ = delta_format(self.values);
     }
 

@@ -10,6 +10,7 @@ ghost use Rattle.denials.specs.Denials.{denial_of};
 use denials::denial::{Denial, Part, Word};
 
 // No fact of the type ties `used` to the bytes, since whoever sets the public fields would have to show it: a write beyond is denied.
+#[derive(Debug)]
 pub struct Output<'a> {
     pub bytes: &'a mut [u8],
     pub used: usize,
@@ -51,6 +52,7 @@ impl<'a> Output<'a> {
     pub fn field(&mut self, value: u16) -> Result<(), Denial>
         ensures { Wrote result self.old self.new (big_endian (value ∷ [])) }
     {
+        // The end is less than 2 away only where the addition saturates.
         let end = self.used.saturating_add(2);
         if end > self.bytes.len() || end - self.used < 2 {
             return Err(Denial::new(Word::ShortOutput, end, Part::Writer));

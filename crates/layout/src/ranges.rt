@@ -61,7 +61,7 @@ impl Listed for GlyphClass {
 }
 
 // The ranges of what a table lists, one after the other.
-#[derive(Clone, Copy, Debug)]
+#[derive(Debug, Drop)]
 pub(crate) struct Ranges<'a, T> {
     gatherer: Gatherer,
     entries: &'a [T],

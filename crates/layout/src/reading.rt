@@ -5,8 +5,8 @@ ghost use Rattle.spec.specs.Fields.{field};
 ghost use Rattle.spec.specs.Meaning.{covered_by_glyphs};
 ghost use Rattle.layout.specs.Headers.{three_fields, range_of};
 
-// A position is a number and no error type: it says which field was needed, and that is all that a fault tells.
 // The field that begins at a byte position, or that position if the field does not lie whole inside.
+// A position is a number and no error type: it says which field was needed, and that is all that a fault tells.
 pub fn field_at(bytes: &[u8], at: usize) -> Result<u16, usize>
     ensures { result ≡ field bytes.now at }
 {
@@ -16,7 +16,8 @@ pub fn field_at(bytes: &[u8], at: usize) -> Result<u16, usize>
     }
 }
 
-// Bytes, and the position in them where a table begins.
+// Bytes, and the position in them where a table begins. The public readers still take the two, so that every earlier call can be made;
+// each makes one of these.
 #[derive(Clone, Copy, Debug, PartialEq, Eq)]
 pub struct FontData<'a> {
     pub bytes: &'a [u8],

@@ -11,7 +11,7 @@ use crate::rules::{EntryKind, Statement};
 use crate::words::{word_at, words_from};
 use std::alloc::Global;
 
-// set NAME GLYPH…
+// set NAME GLYPH… This and `deltas` stay apart: each is one call and the statement that it makes.
 fn read_set_entry(heap: Global, entry: usize, words: &[&[u8]]) -> Result<Statement, Stop>
     ensures { Answered said result (set_entry entry (words_in words.now)) }
 {

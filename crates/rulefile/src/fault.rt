@@ -97,7 +97,7 @@ impl fmt::Display for Fault {
 
 impl std::error::Error for Fault {}
 
-// Why reading stopped: no memory was left, or the file is wrong.
+// Why reading stopped: no memory was left, or the line is wrong. `Error` is this once the line is known, which `at` adds.
 #[derive(Clone, Copy, Debug, PartialEq, Eq)]
 pub(crate) enum Stop {
     Memory,

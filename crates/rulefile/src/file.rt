@@ -57,7 +57,7 @@ fn finish(parser: Parser, lines: usize) -> Result<RuleFile, Error>
     })
 }
 
-// What the text says, or its first mistake.
+// What the text says, or its first mistake: of this answer `parse` shows two facts more.
 fn read_text(heap: Global, text: &[u8]) -> Result<RuleFile, Error>
     ensures { Parsed file_of result (parsed text.now) }
 {

@@ -64,7 +64,8 @@ fn rule_word(word: &[u8]) -> Option<RuleKind>
     }
 }
 
-// The statement that a line's first word stands for.
+// The statement that a line's first word stands for. Options and no `TryFrom`: three tables are tried in turn, and only the last miss is
+// a fault.
 pub(crate) fn keyword_of(word: &[u8]) -> Option<Keyword>
     ensures { result ≡ keyword_of word.now }
 {

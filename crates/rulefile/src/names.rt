@@ -15,8 +15,8 @@ pub(crate) struct Found {
     pub kind: EntryKind,
 }
 
-// The names in the order in which the lines give them.
-#[derive(Drop)]
+// The names in the order in which the lines give them. No model: the parser is taken apart in the end, and `names_in` is what they say.
+#[derive(Debug, Drop)]
 pub(crate) struct Names {
     pub entries: Vec<Entry>,
 }
@@ -32,7 +32,7 @@ impl Names {
         self.entries.len()
     }
 
-    // The entry that a name stands for.
+    // The entry that a name stands for. A loop and no `position`, after which the entry would be looked up again for its kind.
     pub(crate) fn find(&self, name: &[u8]) -> Option<Found>
         ensures { result ≡ place_of name.now (names_in self.now) }
     {

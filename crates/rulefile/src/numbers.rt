@@ -5,13 +5,14 @@ ghost use Rattle.rulefile.specs.Numbers.{digit_of, digits_up_to, unsigned_up_to,
 
 // The value of a digit in base 10 or 16.
 fn digit(base: u64, byte: u8) -> Option<u64>
+    requires { base ≤ 16 }
     ensures { result ≡ digit_of base byte }
 {
     let value = match byte {
         b'0'..=b'9' => byte - b'0',
         b'a'..=b'f' => byte - b'a' + 10,
         b'A'..=b'F' => byte - b'A' + 10,
-        _ => 99,
+        _ => return None,
     };
     let value = u64::from(value);
     (value < base).then_some(value)
@@ -46,9 +47,8 @@ pub(crate) fn unsigned(word: &[u8], limit: u32) -> Option<u32>
     }
 }
 
-// This and the signed two below are a line each, with a cast that is proved to lose nothing: one generic form is no plainer, since
-// it would need a trait for their limits and conversions.
-// A number of 16 bits.
+// A number of 16 bits. This and the signed two below are a line each with a cast that is proved to lose nothing: one function over
+// `TryFrom` is no shorter, and adds a refusal that cannot come.
 pub(crate) fn number16(word: &[u8]) -> Option<u16>
     ensures { result ≡ unsigned_up_to 65535 word.now }
 {

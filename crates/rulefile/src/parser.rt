@@ -17,7 +17,7 @@ use crate::words::{cut_words, word_at, words_from};
 use std::alloc::{AllocError, Global};
 
 // What the lines so far have said, and where it is kept.
-#[derive(Drop)]
+#[derive(Debug, Drop)]
 pub(crate) struct Parser {
     pub heap: Global,
     pub storage: Option<Storage>,
@@ -98,7 +98,7 @@ impl Parser {
         Ok(())
     }
 
-    // Beside `take_storage`, from which it differs in the field and in what reads it: a function over both is longer than this.
+    // Stays apart from `take_storage`: they differ in the field and in what reads it, and a function over both is longer.
     fn take_store(&mut self, words: &[&[u8]]) -> Result<(), Stop>
         ensures { Answered (λ _. state_of self.new) result (store_step (state_of self.old) (words_in words.now)) }
     {

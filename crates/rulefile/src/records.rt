@@ -78,10 +78,10 @@ fn with_metric(mut record: Record, kind: MetricKind, metric: Metric) -> Result<R
         MetricKind::XPlacement => record.x_placement.replace(metric),
         MetricKind::YPlacement => record.y_placement.replace(metric),
     };
-    match held {
-        Some(_) => Err(Fault::MetricTwice),
-        None => Ok(record),
+    if held.is_some() {
+        return Err(Fault::MetricTwice);
     }
+    Ok(record)
 }
 
 // The record with one metric more, from its key and its value.
@@ -123,7 +123,8 @@ pub(crate) fn read_record(names: &Names, words: &[&[u8]]) -> Result<Record, Faul
     }
 }
 
-// Where the first `/` stands.
+// Where the first `/` stands. This cut and that of a word at a byte stay apart: one looks for a word, which clauses see through
+// `words_in`, the other for a byte.
 fn find_slash(words: &[&[u8]]) -> Option<usize>
     ensures { result ≡ position (λ w. same_word w (codes "/")) (words_in words.now) }
 {

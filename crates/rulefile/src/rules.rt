@@ -82,7 +82,7 @@ pub struct Records {
     pub second: Record,
 }
 
-// A region's number and the delta of that region.
+// A region's number and the delta of that region. Not the `Delta` of `storage`: the parser knows no other crate.
 #[derive(Clone, Copy, Debug, PartialEq, Eq)]
 pub struct Delta {
     pub region: u16,

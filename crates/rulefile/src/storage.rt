@@ -62,8 +62,7 @@ fn read_places(word: &[u8]) -> Result<u32, Fault>
     unsigned(word, u32::MAX).ok_or(Fault::StorageNumber)
 }
 
-// The keys with one more, unless it is there. Beside `with_metric`, which is no twin to be joined: a trait that lends the field of a key
-// would be longer than both.
+// The keys with one more, unless it is there. Stays apart from `with_metric`: a trait that lends the field of a key is longer than both.
 fn with_key(mut given: GivenKeys, key: StorageKey, places: u32) -> Result<GivenKeys, Fault>
     ensures { result ≡ with_key given key places }
 {
@@ -77,10 +76,10 @@ fn with_key(mut given: GivenKeys, key: StorageKey, places: u32) -> Result<GivenK
         StorageKey::Rules => given.rules.replace(places),
         StorageKey::Store => given.store.replace(places),
     };
-    match held {
-        Some(_) => Err(Fault::StorageKeyTwice),
-        None => Ok(given),
+    if held.is_some() {
+        return Err(Fault::StorageKeyTwice);
     }
+    Ok(given)
 }
 
 // The keys with one more, from its word and its number.

@@ -17,7 +17,7 @@ pub(crate) fn cut_words(heap: Global, line: &[u8]) -> Result<Vec<&[u8]>, AllocEr
         .collect(heap)
 }
 
-// The word at a place, counted from 0, or no bytes where there is none: no word is empty.
+// The word at a place, counted from 0, or no bytes where there is none, as the definition `word` has it: no word is empty.
 pub(crate) fn word_at<'a>(words: &[&'a [u8]], at: usize) -> &'a [u8]
     ensures { result.now ≡ word (words_in words.now) at }
 {

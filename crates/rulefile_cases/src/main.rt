@@ -3,12 +3,16 @@
 
 mod show;
 
+ghost use Rattle.std.specs.Prelude.{◌≡◌, ◌==◌, if◌then◌else◌, map, IfOk};
+
 use rulefile::{Error, parse};
 use show::show_file;
 use std::alloc::{AllocError, Global};
 
 // The text of a case, with a line feed for each `;`.
-fn text_of(heap: Global, case: &[u8]) -> Result<Vec<u8>, AllocError> {
+fn text_of(heap: Global, case: &[u8]) -> Result<Vec<u8>, AllocError>
+    ensures { IfOk result (λ v. v.items ≡ map (λ b. if b == 59 then 10 else b) case.now) }
+{
     case.iter()
         .map(|byte| if *byte == b';' { b'\n' } else { *byte })
         .collect(heap)

@@ -6,7 +6,7 @@ use rulefile::{
 use std::{fmt, io};
 
 // A device or a delta list beside a metric.
-#[derive(Clone, Copy)]
+#[derive(Clone, Copy, Debug, PartialEq, Eq)]
 struct Beside(Reference);
 
 impl fmt::Display for Beside {
@@ -20,7 +20,7 @@ impl fmt::Display for Beside {
 }
 
 // A set of a class rule.
-#[derive(Clone, Copy)]
+#[derive(Clone, Copy, Debug, PartialEq, Eq)]
 struct Set(SetReference);
 
 impl fmt::Display for Set {

@@ -8,6 +8,7 @@ use crate::faults::{deltas_fault, device_fault, set_fault};
 use crate::interner::Interner;
 use denials::denial::{Denial, Part, Word};
 
+// The three below stay apart: they differ in what is checked and in what an entry is made of, and `Interner::enter` is what they share.
 // The number of a glyph set, `bad set`, or `full`.
 pub fn enter_set<'a>(sets: &mut Interner<'a, u16, ()>, glyphs: &[u16]) -> Result<u16, Denial>
     ensures { SetEntered sets.old sets.new glyphs.now result }

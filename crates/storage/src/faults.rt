@@ -43,11 +43,10 @@ pub(crate) fn device_fault(first: u16, last: u16, count: usize) -> Option<usize>
 fn lower(fault: Option<usize>, long: bool) -> Option<usize>
     ensures { result ≡ lower fault long }
 {
-    match fault {
-        Some(i) if long => Some(i.min(MOST_ENTRIES)),
-        None if long => Some(MOST_ENTRIES),
-        _ => fault,
+    if long {
+        return Some(fault.unwrap_or(MOST_ENTRIES).min(MOST_ENTRIES));
     }
+    fault
 }
 
 // The first place whose region does not rise, or that lies past the most entries.

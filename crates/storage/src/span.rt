@@ -3,7 +3,7 @@
 ghost use Rattle.std.specs.Prelude.{◌≡◌};
 
 // Start and length in a pool, not the list itself: the pool is memory that the caller brings, and grows behind the lists.
-#[derive(Clone, Copy, Debug)]
+#[derive(Clone, Copy, Debug, Default, PartialEq, Eq)]
 pub struct Span<H> {
     pub start: usize,
     pub len: usize,

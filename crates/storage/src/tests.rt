@@ -11,27 +11,15 @@ fn told(answer: Result<u16, Denial>) -> Result<u16, (Word, usize)> {
     answer.map_err(|denial| (denial.word, denial.place))
 }
 
-fn empty<H>(head: H) -> Span<H> {
-    Span {
-        start: 0,
-        len: 0,
-        head,
-    }
-}
-
 #[test]
 fn delta_lists(rt: HostRuntime) {
-    let none = Delta {
-        region: 0,
-        delta: 0,
-    };
-    let mut list = [none; 65];
+    let mut list = [Delta::default(); 65];
     for (region, entry) in list.iter_mut().enumerate() {
         entry.region = region as u16;
         entry.delta = 1;
     }
-    let mut pool = [none; 200];
-    let mut table = [empty(()); 2];
+    let mut pool = [Delta::default(); 200];
+    let mut table = [Span::default(); 2];
     let mut deltas = Interner::new(&mut pool, &mut table, 65535, Part::Deltas);
     let rows = [
         (64usize, Ok(0)),
@@ -52,7 +40,7 @@ fn delta_lists(rt: HostRuntime) {
 fn devices(rt: HostRuntime) {
     let values = [1i8; 65];
     let mut pool = [0i8; 128];
-    let mut table = [empty(0u16); 3];
+    let mut table = [Span::default(); 3];
     let mut devices = Interner::new(&mut pool, &mut table, 65535, Part::Devices);
     let rows = [
         (10, 73, 64usize, Ok(0)),
@@ -80,7 +68,7 @@ fn capacities(rt: HostRuntime) {
     ];
     for (most, count, answer) in rows {
         let mut pool = [0u16; 2];
-        let mut table = [empty(()); 1];
+        let mut table = [Span::default(); 1];
         let mut sets = Interner::new(&mut pool, &mut table, most, Part::Sets);
         assert_eq!(rt; told(enter_set(&mut sets, &glyphs[..count.min(3)])), answer);
     }

@@ -15,10 +15,10 @@ use storage::faults::deltas_fault;
 pub fn check(list: &[Delta]) -> Result<(), Denial>
     ensures { told result ≡ allowed (deltas_of list.now) }
 {
-    match deltas_fault(list) {
-        Some(place) => Err(Denial::new(Word::BadDeltas, place, Part::Store)),
-        None => Ok(()),
+    if let Some(place) = deltas_fault(list) {
+        return Err(Denial::new(Word::BadDeltas, place, Part::Store));
     }
+    Ok(())
 }
 
 // The delta at a region, 0 where the region is not listed.

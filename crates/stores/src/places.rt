@@ -1,5 +1,5 @@
 // Lists of deltas in places that the caller brings, numbered from 0 in the order in which they came.
-// A list is sought by asking each that is held at every region of either: linear in what is held.
+// A search compares the list with each one held, at every region of both: linear in what is held.
 
 ghost use Rattle.std.specs.Prelude.{◌≡◌, ◌≤◌, min, [], map, length, ◌==◌};
 ghost use Rattle.spec.specs.Entries.{is_alike};
@@ -18,8 +18,8 @@ use storage::faults::MOST_ENTRIES;
 // The most places that are used.
 const MOST_PLACES: usize = 65_535;
 
-// Room for one list: the first `len` of its entries. An array with a length, since a place is memory that the caller brings, and copies.
-#[derive(Clone, Copy, Debug)]
+// Room for one list: the first `len` of its entries. No `ArrayVec`, which cannot be copied: callers bring `[Place::new(); n]`.
+#[derive(Clone, Copy, Debug, PartialEq, Eq)]
 pub struct Place {
     len: usize,
     entries: [Delta; MOST_ENTRIES],
@@ -90,7 +90,7 @@ impl<'a> Places<'a> {
         }
     }
 
-    // The places that hold a list.
+    // The places that hold a list. Callers do not see what is true of every model, so that this and two others say it (`within`).
     fn held(&self) -> &[Place]
         ensures lists { map list_in result.now ≡ self.now.rows }
         ensures within { Within self.now }

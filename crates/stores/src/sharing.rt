@@ -13,7 +13,7 @@ use crate::store::VariationStore;
 use denials::denial::Denial;
 use storage::delta::Delta;
 
-// Beside the flat store, since the two differ in a step of `add` and in what they mean, and in no type or number: `Places` is what they share.
+// Stays apart from the flat store: the two differ in a step of `add` and in what they mean, and in no type or number: `Places` is what they share.
 #[derive(Debug, Drop)]
 pub struct SharingStore<'a> {
     lists: Places<'a>,

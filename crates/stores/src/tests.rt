@@ -9,29 +9,21 @@ use crate::trim::TrimLayer;
 use denials::denial::{Denial, Part, Word};
 use storage::delta::Delta;
 
-// A list, the first `len` of two deltas at the regions 1 and 2, and its id or its denial.
-#[derive(Clone, Copy)]
-struct Row {
-    len: usize,
-    list: [Delta; 2],
-    answer: Result<u32, Denial>,
-}
+// A list and its id or its denial.
+type Row<'a> = (&'a [Delta], Result<u32, Denial>);
 
-fn sent(len: usize, one: i16, two: i16, answer: Result<u32, Denial>) -> Row {
-    Row {
-        len,
-        list: [
-            Delta {
-                region: 1,
-                delta: one,
-            },
-            Delta {
-                region: 2,
-                delta: two,
-            },
-        ],
-        answer,
-    }
+// Deltas at the regions 1 and 2.
+fn deltas(one: i16, two: i16) -> [Delta; 2] {
+    [
+        Delta {
+            region: 1,
+            delta: one,
+        },
+        Delta {
+            region: 2,
+            delta: two,
+        },
+    ]
 }
 
 // `store full`, passed up by so many layers.
@@ -42,21 +34,22 @@ fn full(depth: u16) -> Result<u32, Denial> {
     })
 }
 
-fn adds<S: VariationStore>(store: &mut S, rows: &[Row]) -> bool {
-    let mut good = true;
-    for row in rows {
-        good = store.add(&row.list[..row.len.min(2)]) == row.answer && good;
+fn adds<S: VariationStore>(store: &mut S, rows: &[Row<'_>]) -> bool {
+    for (list, answer) in rows {
+        if store.add(list) != *answer {
+            return false;
+        }
     }
-    good
+    true
 }
 
 // Exactly as many lists as places, then one over.
 #[test]
 fn flat_store(rt: HostRuntime) {
     let rows = [
-        sent(0, 0, 0, Ok(0)), // the empty list is good
-        sent(2, 5, 0, Ok(1)),
-        sent(1, 5, 0, full(0)), // nothing is recognised
+        (&deltas(0, 0)[..0], Ok(0)), // the empty list is good
+        (&deltas(5, 0)[..2], Ok(1)),
+        (&deltas(5, 0)[..1], full(0)), // nothing is recognised
     ];
     let mut places = [Place::new(); 2];
     let mut store = FlatStore::new(&mut places);
@@ -67,11 +60,11 @@ fn flat_store(rt: HostRuntime) {
 #[test]
 fn sharing_store(rt: HostRuntime) {
     let rows = [
-        sent(1, 0, 0, Ok(0)), // one zero delta
-        sent(0, 0, 0, Ok(0)), // alike to the empty list
-        sent(1, 5, 0, Ok(1)),
-        sent(2, 0, 5, full(0)), // the same entries' deltas at another region
-        sent(2, 5, 0, Ok(1)), // one zero delta more
+        (&deltas(0, 0)[..1], Ok(0)), // one zero delta
+        (&deltas(0, 0)[..0], Ok(0)), // alike to the empty list
+        (&deltas(5, 0)[..1], Ok(1)),
+        (&deltas(0, 5)[..2], full(0)), // the same entries' deltas at another region
+        (&deltas(5, 0)[..2], Ok(1)), // one zero delta more
     ];
     let mut places = [Place::new(); 2];
     let mut store = SharingStore::new(&mut places);
@@ -81,7 +74,7 @@ fn sharing_store(rt: HostRuntime) {
 // Two layers pass up what the store denies; no place was brought.
 #[test]
 fn layers(rt: HostRuntime) {
-    let rows = [sent(2, 5, 0, full(2))];
+    let rows = [(&deltas(5, 0)[..2], full(2))];
     let mut places = [Place::new(); 1];
     let mut store = TrimLayer::new(TrimLayer::new(SharingStore::new(&mut places[0..0])));
     assert!(rt; adds(&mut store, &rows));
