@@ -56,6 +56,7 @@ impl CoverageTable<'_> {
     }
 }
 
+// The clauses of the traits are written out at each part, where a reader sees what it encodes and when it is refused.
 impl FontWrite for CoverageTable<'_> {
     ghost encoded = { λ t. table_fields (coverage t.glyphs.now) };
 

@@ -147,7 +147,7 @@ pub fn delta_format(values: &[i8]) -> DeltaFormat
     format
 }
 
-// Writes the values as words.
+// Writes the values as words. The bound of the output is said here: see `Output`.
 pub(crate) fn write_words(
     out: &mut Output<'_>,
     values: &[i8],

@@ -53,7 +53,7 @@ fn class_here(classes: &[GlyphClass], glyph: usize) -> (u16, &[GlyphClass])
     }
 }
 
-// Writes the class of each glyph of the span, 0 for those that are not listed.
+// Writes the class of each glyph of the span, 0 for those that are not listed. The bound of the output is said here: see `Output`.
 pub(crate) fn write_array(out: &mut Output<'_>, classes: &[GlyphClass]) -> Result<(), Denial>
     requires rises { Rising (map (λ p. p.0) (listed classes.now)) }
     requires in_bounds { out.old.used ≤ length out.old.bytes.now }

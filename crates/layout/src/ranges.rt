@@ -107,7 +107,7 @@ pub(crate) fn count_ranges<T: Listed>(entries: &[T]) -> usize
     Ranges::new(entries).count()
 }
 
-// Writes the ranges: start, end and third field of each.
+// Writes the ranges: start, end and third field of each. The bound of the output is said here: see `Output`.
 pub(crate) fn write_ranges<T: Listed>(out: &mut Output<'_>, entries: &[T]) -> Result<(), Denial>
     requires few { length entries.now ≤ 65536 }
     requires in_bounds { out.old.used ≤ length out.old.bytes.now }

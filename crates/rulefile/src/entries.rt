@@ -11,14 +11,6 @@ use crate::rules::{EntryKind, Statement};
 use crate::words::{word_at, words_from};
 use std::alloc::Global;
 
-// set NAME GLYPH… This and `deltas` stay apart: each is one call and the statement that it makes.
-fn read_set_entry(heap: Global, entry: usize, words: &[&[u8]]) -> Result<Statement, Stop>
-    ensures { Answered said result (set_entry entry (words_in words.now)) }
-{
-    let glyphs = read_each(heap, words_from(words, 2))?;
-    Ok(Statement::Set { entry, glyphs })
-}
-
 // A pixel size of a device.
 fn read_size(word: &[u8]) -> Result<u16, Fault>
     ensures { result ≡ device_size word.now }
@@ -41,15 +33,7 @@ fn read_device_entry(heap: Global, entry: usize, words: &[&[u8]]) -> Result<Stat
     })
 }
 
-// deltas NAME [REGION:DELTA…]
-fn read_deltas_entry(heap: Global, entry: usize, words: &[&[u8]]) -> Result<Statement, Stop>
-    ensures { Answered said result (deltas_entry entry (words_in words.now)) }
-{
-    let deltas = read_each(heap, words_from(words, 2))?;
-    Ok(Statement::Deltas { entry, deltas })
-}
-
-// The statement of an entry, but for its name.
+// The statement of an entry, but for its name: set NAME GLYPH…, device NAME FIRST LAST VALUE… or deltas NAME [REGION:DELTA…].
 pub(crate) fn read_entry(
     heap: Global,
     kind: EntryKind,
@@ -59,8 +43,14 @@ pub(crate) fn read_entry(
     ensures { Answered said result (entry_of kind entry (words_in words.now)) }
 {
     match kind {
-        EntryKind::Set => read_set_entry(heap, entry, words),
+        EntryKind::Set => {
+            let glyphs = read_each(heap, words_from(words, 2))?;
+            Ok(Statement::Set { entry, glyphs })
+        }
         EntryKind::Device => read_device_entry(heap, entry, words),
-        EntryKind::Deltas => read_deltas_entry(heap, entry, words),
+        EntryKind::Deltas => {
+            let deltas = read_each(heap, words_from(words, 2))?;
+            Ok(Statement::Deltas { entry, deltas })
+        }
     }
 }

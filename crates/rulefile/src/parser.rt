@@ -17,6 +17,7 @@ use crate::words::{cut_words, word_at, words_from};
 use std::alloc::{AllocError, Global};
 
 // What the lines so far have said, and where it is kept.
+// No model: it is taken apart in the end, and `state_of` is what its fields say.
 #[derive(Debug, Drop)]
 pub(crate) struct Parser {
     pub heap: Global,

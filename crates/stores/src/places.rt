@@ -39,6 +39,7 @@ impl Place {
         }
     }
 
+    // The bound of the list stands here, at `take_place` and at `trim`: `check` comes before each of them.
     fn of(list: &[Delta]) -> Place
         requires { length list.now ≤ 64 }
         ensures { list_in result ≡ deltas_of list.now }
