@@ -115,7 +115,8 @@ fn with_defaults(given: GivenKeys) -> Storage
     }
 }
 
-// The keys of the words.
+// The keys of the words. Stays apart from `read_metrics`: a loop of two lines each, and one over both would need the step as a closure with a
+// clause for it.
 fn read_keys(words: &[&[u8]]) -> Result<GivenKeys, Fault>
     ensures { result ≡ word_by_word added_key no_keys (words_in words.now) }
 {

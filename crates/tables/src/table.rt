@@ -141,7 +141,7 @@ impl<'a, K: Ord + Copy, V: Copy> OrderedTable<'a, K, V> {
         }
     }
 
-    // Adds a pair; it replaces one with that key.
+    // Adds a pair; it replaces one with that key. Stays apart from `insert_first`: they differ in what a pair with that key gets.
     pub fn insert_last(&mut self, key: K, value: V) -> Result<(), Denial>
         ensures { Inserted self.old self.new (replaced (before K.cmp) (key, value) self.old.pairs) result }
     {
