@@ -9,7 +9,7 @@ ghost use Rattle.denials.specs.Denials.{denial_of};
 
 use denials::denial::{Denial, Part, Word};
 
-// No fact of the type ties `used` to the bytes, since whoever sets the public fields would have to show it: a write beyond is denied.
+// A slice and a count, since the caller brings the bytes. No fact of the type ties `used` to the bytes, since whoever sets the public fields would have to show it: a write beyond is denied.
 #[derive(Debug)]
 pub struct Output<'a> {
     pub bytes: &'a mut [u8],

@@ -91,7 +91,7 @@ impl<'a> Places<'a> {
         }
     }
 
-    // The places that hold a list. Callers do not see what is true of every model, so that this and two others say it (`within`).
+    // The places that hold a list. Callers do not see what is true of every model, so that this and three others say it (`within`).
     fn held(&self) -> &[Place]
         ensures lists { map list_in result.now ≡ self.now.rows }
         ensures within { Within self.now }
