@@ -13,7 +13,7 @@ use denials::denial::{Denial, Part, Word};
 use std::marker::Model;
 
 // The first `used` places of the table are spans of the first `filled` elements of the pool, one after another. Two slices with their
-// counts and no `Vec` or map: the libraries allocate nothing, and the caller brings the memory.
+// counts and no `Vec` or map: this crate allocates nothing, and the caller brings the memory.
 #[derive(Debug, Drop)]
 pub struct Interner<'a, T, H> {
     pool: &'a mut [T],

@@ -11,7 +11,7 @@ use denials::denial::{Denial, Part, Word};
 use std::cmp::Ordering;
 use std::marker::Model;
 
-// Two slices and a count, no `Vec` or map: the libraries allocate nothing, and the caller brings the memory.
+// Two slices and a count, no `Vec` or map: this crate allocates nothing, and the caller brings the memory.
 #[derive(Debug, Drop)]
 pub struct OrderedTable<'a, K: Ord, V> {
     rows: &'a mut [(K, V)],
