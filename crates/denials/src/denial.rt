@@ -9,19 +9,19 @@ use std::fmt;
 
 #[derive(Clone, Copy, Debug, PartialEq, Eq)]
 pub enum Word {
-    BadSet = 1,
-    BadDevice = 2,
-    BadDeltas = 3,
-    UnknownEntry = 4,
-    Full = 5,
-    NoSection = 6,
-    BadFlags = 7,
-    StoreFull = 8,
-    TooMany = 9,
-    TooFar = 10,
-    ShortOutput = 11,
-    BrokenTable = 12,
-    UnknownId = 13,
+    BadSet,
+    BadDevice,
+    BadDeltas,
+    UnknownEntry,
+    Full,
+    NoSection,
+    BadFlags,
+    StoreFull,
+    TooMany,
+    TooFar,
+    ShortOutput,
+    BrokenTable,
+    UnknownId,
 }
 
 impl Word {
@@ -29,7 +29,8 @@ impl Word {
     pub fn number(self) -> u8
         ensures { result ≡ number (word_of self) }
     {
-        self as u8
+        // The table lists them from 1 on, in the order in which they stand above.
+        self as u8 + 1
     }
 
     pub fn text(self) -> &'static str
