@@ -49,9 +49,10 @@ fn lower(fault: Option<usize>, long: bool) -> Option<usize>
     fault
 }
 
-// The first place whose region does not rise, or that lies past the most entries.
+// The first place whose region does not rise, or that lies past the most entries. What lies past them is not read.
 pub fn deltas_fault(list: &[Delta]) -> Option<usize>
     ensures { result ≡ deltas_fault (deltas_of list.now) }
 {
-    lower(first_unsorted(list), list.len() > MOST_ENTRIES)
+    let first = &list[..list.len().min(MOST_ENTRIES)];
+    lower(first_unsorted(first), list.len() > MOST_ENTRIES)
 }

@@ -1,13 +1,11 @@
-use Rattle.std.proofs.Common.{ltb, sym, ap, ◌∙◌}
-use lib.ListN.{length-map}
+use Rattle.std.proofs.Common.{ltb, map, length, take, ap, ◌∙◌}
 use Rattle.spec.specs.Entries.{lower, unsorted}
-use Rattle.storage.specs.Deltas.{delta_of}
-use Rattle.storage.proofs.Regions.{keys_are}
+use Rattle.storage.specs.declared.delta.Delta.{Delta}
+use Rattle.storage.proofs.Regions.{first_tell}
 use Rattle.storage.proofs.faults.deltas_fault.Goals as goal
 
 pub returns : goal.returns
 returns c =
     let ds = c.args.list.now in
-    let first = c.first_unsorted.ensures ∙ ap unsorted (keys_are ds) in
-    let long = sym (length-map ds delta_of) in
-    c.lower.ensures ∙ (λ i. lower (first i) (ltb 64 (long i)))
+    let first = c.first_unsorted.ensures ∙ ap (λ n. unsorted (map (λ (d : Delta). d.region) (take n ds))) c.min.ensures in
+    c.lower.ensures ∙ ap (λ o. lower o (ltb 64 (length ds))) first ∙ first_tell ds
