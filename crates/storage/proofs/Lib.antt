@@ -3,4 +3,5 @@ pub mod Entering
 pub mod Interning
 pub mod Numbers
 pub mod Regions
+pub mod SameLists
 pub mod Spans

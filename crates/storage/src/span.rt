@@ -1,6 +1,7 @@
 // Where a list stands in a pool, and what stands beside the list.
 
 ghost use Rattle.std.specs.Prelude.{◌≡◌};
+ghost use Rattle.std.specs.Cmp.Lexicographic.{pointwise};
 
 // Start and length in a pool, not the list itself: the pool is memory that the caller brings, and grows behind the lists.
 #[derive(Clone, Copy, Debug, Default, PartialEq, Eq)]
@@ -8,6 +9,27 @@ pub struct Span<H> {
     pub start: usize,
     pub len: usize,
     pub head: H,
+}
+
+// How many elements are compared one after another before the rest, which `==` compares in groups. Lists that differ mostly do so early,
+// and a group is compared whole.
+const IN_TURN: usize = 64;
+
+// Whether two lists are the same, element by element.
+fn same_list<T: Eq + Copy>(a: &[T], b: &[T]) -> bool
+    ensures { result ≡ pointwise T.eq a.now b.now }
+{
+    if a.len() != b.len() {
+        return false;
+    }
+    let (a, a_rest) = a.split_at(a.len().min(IN_TURN));
+    let (b, b_rest) = b.split_at(a.len());
+    for (x, y) in a.iter().zip(b) {
+        if x != y {
+            return false;
+        }
+    }
+    a_rest == b_rest
 }
 
 impl<H: Eq + Copy> Span<H> {
@@ -27,6 +49,6 @@ impl<H: Eq + Copy> Span<H> {
     pub(crate) fn holds<T: Eq + Copy>(&self, pool: &[T], head: H, list: &[T]) -> bool
         ensures { result ≡ same_entry H.eq T.eq (entry pool.now self.now) (head, list.now) }
     {
-        self.entry(pool) == (head, list)
+        self.head == head && same_list(self.entry(pool).1, list)
     }
 }
