@@ -10,8 +10,9 @@ ghost use Rattle.layout.specs.Headers.{three_fields, range_of};
 pub fn field_at(bytes: &[u8], at: usize) -> Result<u16, usize>
     ensures { result ≡ field bytes.now at }
 {
-    match bytes.get(at..) {
-        Some([high, low, ..]) => Ok(u16::from_be_bytes([*high, *low])),
+    // `split_at_checked` costs less than `get`, which takes the length of what is left before it tests.
+    match bytes.split_at_checked(at) {
+        Some((_, [high, low, ..])) => Ok(u16::from_be_bytes([*high, *low])),
         _ => Err(at),
     }
 }
