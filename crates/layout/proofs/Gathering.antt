@@ -1,11 +1,13 @@
 -- Glyphs gathered one after the other make the ranges of the definitions.
-use Rattle.std.proofs.Common.{◌≡◌, ℕ, ◌+◌, ◌≤◌, Bool, true, false, ◌&&◌, eqb, List, [], ◌∷◌, map, length, Some, None, Option, sym, refl, ap, ◌∙◌, arith}
+use Rattle.std.proofs.Common.{◌≡◌, ℕ, ◌+◌, ◌<◌, ◌≤◌, Bool, true, false, ◌&&◌, eqb, List, [], ◌∷◌, map, length, get_or, drop, Some, None, Option, sym, refl, ap, ◌∙◌, arith}
 use Rattle.std.proofs.lemmas.Bool.Decides.{nat_tests}
-use Rattle.std.proofs.lemmas.List.{length-map}
+use Rattle.std.specs.Option.{is_some}
+use Rattle.std.specs.Int.{from_bool}
+use Rattle.std.proofs.lemmas.List.{length-map, drop_more, drop_all}
 use Rattle.spec.specs.Coverage.{Range, joined, ranges}
 use Rattle.layout.specs.declared.gather.RangeRecord.{RangeRecord}
 use Rattle.layout.specs.declared.ranges.Ranges.{Ranges}
-use Rattle.layout.specs.Gathering.{step_if, emitted, gathered, coming, ranged}
+use Rattle.layout.specs.Gathering.{step_if, step, emitted, gathered, coming, ranged}
 
 abbrev join_if : Bool → Range → Range → List Range → List Range
 join_if true r q qs = record { start = r.start; end = q.end; class = r.class } ∷ qs
@@ -86,6 +88,35 @@ few (Some r) (p ∷ ps) = go (eqb p.0 (r.end + 1) && eqb p.1 r.class) (λ q. few
     go : (b : Bool) → ((q : RangeRecord) → length (gathered (Some q) ps) ≤ 1 + length ps) → length (emitted (step_if b r p.0 p.1).1 (gathered (step_if b r p.0 p.1).0 ps)) ≤ 1 + length (p ∷ ps)
     go true h = let k = h (record { start = r.start; end = p.0; class = p.1 }) in omega arith
     go false h = let k = h (record { start = p.0; end = p.0; class = p.1 }) in omega arith
+
+pub few_all : {E : Type 0} (f : E → ℕ × ℕ) (xs : List E) → length (ranges (map f xs)) ≤ length xs
+few_all f xs = omega (arith, few None (map f xs), length-map xs f, length-map (gathered None (map f xs)) ranged, ap length (gather_all (map f xs)))
+
+-- ---- counting them
+
+emits : (x : Option RangeRecord) (rs : List RangeRecord) → length (emitted x rs) ≡ from_bool (is_some x) + length rs
+emits None rs = omega arith
+emits (Some r) rs = omega arith
+
+module _ {E : Type 0} (f : E → ℕ × ℕ) where
+  pub count_none : (xs : List E) → length (gathered None (map f xs)) ≡ length (ranges (map f xs))
+  count_none xs = sym (length-map (gathered None (map f xs)) ranged) ∙ ap length (gather_all (map f xs))
+
+  -- one entry more, o being open before it, q behind it, and r closed by it
+  -- one entry more, a being its glyph and b its class: before it o is open, behind it q, and it closes r
+  pub count_next : (xs : List E) (i : ℕ) (x : E) → i < length xs → x ≡ get_or xs i x → (a b : ℕ) → a ≡ (f x).0 → b ≡ (f x).1 → (o q r : Option RangeRecord) → q ≡ (step o a b).0 → r ≡ (step o a b).1
+      → length (gathered o (map f (drop i xs))) ≡ from_bool (is_some r) + length (gathered q (map f (drop (i + 1) xs)))
+  count_next xs i x h e a b m n o q r s t =
+      let ys = map f (drop (i + 1) xs) in
+      ap (λ l. length (gathered o (map f l))) (drop_more xs i x h ∙ ap (λ y. y ∷ drop (i + 1) xs) (sym e))
+      ∙ ap (λ k. length (emitted (step o k (f x).1).1 (gathered (step o k (f x).1).0 ys))) (sym m)
+      ∙ ap (λ k. length (emitted (step o a k).1 (gathered (step o a k).0 ys))) (sym n)
+      ∙ emits (step o a b).1 (gathered (step o a b).0 ys)
+      ∙ ap (λ z. from_bool (is_some z) + length (gathered (step o a b).0 ys)) (sym t)
+      ∙ ap (λ z. from_bool (is_some r) + length (gathered z ys)) (sym s)
+
+  pub count_last : (xs : List E) (i : ℕ) (o : Option RangeRecord) → length xs ≤ i → length (gathered o (map f (drop i xs))) ≡ from_bool (is_some o)
+  count_last xs i o h = let e = emits o [] in omega (arith, ap (λ l. length (gathered o (map f l))) (drop_all i xs h))
 
 -- at the beginning all ranges are to come
 module _ {E : Type 0} (f : E → ℕ × ℕ) (xs : List E) (s : Ranges E) (p : s.gatherer.open ≡ None) (q : s.entries.now ≡ xs) where

@@ -104,7 +104,15 @@ pub(crate) fn count_ranges<T: Listed>(entries: &[T]) -> usize
     ensures value { result ≡ length (ranges (map T.listed entries.now)) }
     ensures bound { result ≤ length entries.now }
 {
-    Ranges::new(entries).count()
+    // A loop and not `Ranges::new(entries).count()`: only the number of entries ends it, so a compiler can take several at a time.
+    let mut gatherer = Gatherer { open: None };
+    let mut count = 0;
+    for entry in entries {
+        let listed = entry.glyph_class();
+        let closed = gatherer.next(listed.glyph, listed.class);
+        count += usize::from(closed.is_some());
+    }
+    count + usize::from(gatherer.open.is_some())
 }
 
 // Writes the ranges: start, end and third field of each. The bound of the output is said here: see `Output`.
