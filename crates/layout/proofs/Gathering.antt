@@ -102,7 +102,6 @@ module _ {E : Type 0} (f : E → ℕ × ℕ) where
   pub count_none : (xs : List E) → length (gathered None (map f xs)) ≡ length (ranges (map f xs))
   count_none xs = sym (length-map (gathered None (map f xs)) ranged) ∙ ap length (gather_all (map f xs))
 
-  -- one entry more, o being open before it, q behind it, and r closed by it
   -- one entry more, a being its glyph and b its class: before it o is open, behind it q, and it closes r
   pub count_next : (xs : List E) (i : ℕ) (x : E) → i < length xs → x ≡ get_or xs i x → (a b : ℕ) → a ≡ (f x).0 → b ≡ (f x).1 → (o q r : Option RangeRecord) → q ≡ (step o a b).0 → r ≡ (step o a b).1
       → length (gathered o (map f (drop i xs))) ≡ from_bool (is_some r) + length (gathered q (map f (drop (i + 1) xs)))
