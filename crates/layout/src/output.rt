@@ -52,11 +52,12 @@ impl<'a> Output<'a> {
     pub fn field(&mut self, value: u16) -> Result<(), Denial>
         ensures { Wrote result self.old self.new (big_endian (value ∷ [])) }
     {
-        // The end is less than 2 away only where the addition saturates.
-        let end = self.used.saturating_add(2);
-        if end > self.bytes.len() || end - self.used < 2 {
+        // The bytes that are left are tested, so that only a denial needs an end that saturates.
+        if self.used > self.bytes.len() || self.bytes.len() - self.used < 2 {
+            let end = self.used.saturating_add(2);
             return Err(Denial::new(Word::ShortOutput, end, Part::Writer));
         }
+        let end = self.used + 2;
         self.bytes[self.used..end].copy_from_slice(&value.to_be_bytes());
         self.used = end;
         Ok(())
