@@ -126,7 +126,7 @@ module _ {E : Type 0} (f : E → ℕ × ℕ) (xs : List E) (s : Ranges E) (p : s
   ranges_coming = ap (map ranged) coming_all ∙ gather_all (map f xs)
 
   pub count_coming : length (coming f s) ≡ length (ranges (map f xs))
-  count_coming = sym (length-map (coming f s) ranged) ∙ ap length ranges_coming
+  count_coming = ap length coming_all ∙ count_none f xs
 
   pub few_coming : length (coming f s) ≤ length xs
-  few_coming = let a = few None (map f xs) in let b = length-map xs f in omega (arith, ap length coming_all)
+  few_coming = omega (arith, count_coming, few_all f xs)
