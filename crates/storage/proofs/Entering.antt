@@ -101,19 +101,13 @@ module _ {T H : Type 0} (same : H × List T → H × List T → Bool) (pool : Li
           same_part = refl;
         })
 
-    -- it comes behind the others, where pool' is the pool after its list was copied behind what it held
-    module _ (reflexive : same x x ≡ true) (place : (used ≡ length table) → ⊥) (room : length x.1 ≤ length pool - filled) (k : ℕ) (ys : List T) (copied : ys ≡ x.1) (longs : length (put_mid filled k pool ys) ≡ length pool) where
-      abbrev pool' : List T
-      pool' = put_mid filled k pool ys
-
+    -- it comes behind the others, where pool' is as long as the pool, and has its list behind what that held
+    module _ (place : (used ≡ length table) → ⊥) (room : length x.1 ≤ length pool - filled) (pool' : List T) (longs : length pool' ≡ length pool) where
       free : used < length table
       free = omega (arith, place, lies.in_table)
 
       fit : filled + length x.1 ≤ length pool
       fit = omega (arith, room, lies.in_pool)
-
-      written : take (filled + length x.1) pool' ≡ take filled pool ++ x.1
-      written = take-put_mid filled k pool ys (filled + length x.1) (ap (λ zs. filled + length zs) (sym copied)) lies.in_pool ∙ ap (λ zs. take filled pool ++ zs) copied
 
       abbrev span : Span H
       span = record { start = filled; len = length x.1; head = x.0 }
@@ -128,9 +122,9 @@ module _ {T H : Type 0} (same : H × List T → H × List T → Bool) (pool : Li
             in_order = laid_more table table used filled span refl free lies.in_order refl;
           }
 
-      pub enters_new : Entered same before (seen part pool' (set table used span) (used + 1)) x (Ok used)
+      pub enters_new : same x x ≡ true → take (filled + length x.1) pool' ≡ take filled pool ++ x.1 → Entered same before (seen part pool' (set table used span) (used + 1)) x (Ok used)
       unfolding full says leaves
-      enters_new =
+      enters_new reflexive written =
           let under : (ltb used (length table) && leb (filled + length x.1) (length pool)) ≡ true = grind (arith, nat_tests, free, fit) in
           let o : full (es ++ x ∷ []) ≡ false = fits ∙ ap not under in
           let n : number_in same (es ++ x ∷ []) x ≡ length es = number_push same x reflexive es unknown in
@@ -142,6 +136,13 @@ module _ {T H : Type 0} (same : H × List T → H × List T → Bool) (pool : Li
             same_room = longs;
             same_part = refl;
           })
+
+-- a list that was copied behind what a pool held stands there
+pub copied_behind : {T : Type 0} (filled at k : ℕ) (pool list ys : List T) → at ≡ filled → filled ≤ length pool → ys ≡ list → take (filled + length list) (put_mid at k pool ys) ≡ take filled pool ++ list
+copied_behind filled at k pool list ys a l e =
+    ap (λ n. take (filled + length list) (put_mid n k pool ys)) a
+    ∙ take-put_mid filled k pool ys (filled + length list) (ap (λ zs. filled + length zs) (sym e)) l
+    ∙ ap (λ zs. take filled pool ++ zs) e
 
 -- an entry is the same as itself
 pub entry_self : {T H : Type 0} (heads : H → H → Bool) (elements : T → T → Bool) → ((x y : H) → Decides (heads x y) (x ≡ y)) → ((x y : T) → Decides (elements x y) (x ≡ y))

@@ -1,7 +1,7 @@
-use Rattle.std.proofs.Common.{◌≡◌, ◌+◌, ◌-◌, ◌<◌, ◌⊎◌, length, sym, ◌∙◌, inl, inr, rules}
-use borrow.Rule.Slice.PartMut.{put_mid}
+use Rattle.std.proofs.Common.{◌≡◌, ◌-◌, ◌<◌, ◌⊎◌, length, sym, ◌∙◌, inl, inr, arith, rules}
+use borrow.Rule.Slice.PartMut.{same_len_mid}
 use Rattle.storage.specs.Interners.{same_entry}
-use Rattle.storage.proofs.Entering.{enters_old, enters_full, enters_new, lies_more, entry_self}
+use Rattle.storage.proofs.Entering.{enters_old, enters_full, enters_new, lies_more, copied_behind, entry_self}
 use Rattle.storage.proofs.interner.Interner.enter.Goals as goal
 use Rattle.storage.proofs.interner.Interner.enter.Goals.{then-self-via-then-self, then-self-via-else-self+then-list-self}
 
@@ -24,17 +24,13 @@ returns-then-self g c =
 pub invariant_of-self : goal.invariant_of-self
 invariant_of-self g c =
     let d = c.self.inside in
-    let x : g.row.H.Denot × _ = (c.args.head, c.args.list.now) in
-    let k = d.filled + length x.1 - d.filled in
-    let longs : length (put_mid d.filled k d.pool.now c.copy_from_slice.new.self) ≡ length d.pool.now = search rules in
-    lies_more (same_entry g.H.PartialEq.eq g.T.PartialEq.eq) d.pool.now d.table.now d.part d.used d.filled c.self.invariant _ c.self.view_is x (sym c.number.ensures ∙ c.in_default.is)
-    (entry_self g.H.PartialEq.eq g.T.PartialEq.eq g.met.H.Exact.decides g.met.T.Exact.decides x) c.if-self.false c.if-list-self.false k _ c.copy_from_slice.ensures.after longs
+    lies_more (same_entry g.H.PartialEq.eq g.T.PartialEq.eq) d.pool.now d.table.now d.part d.used d.filled c.self.invariant _ c.self.view_is (c.args.head, c.args.list.now) (sym c.number.ensures ∙ c.in_default.is)
+    c.if-self.false c.if-list-self.false _ (same_len_mid _ _ _ _ c.copy_from_slice.ensures.len)
 
 pub returns : goal.returns
 returns g c =
     let d = c.self.inside in
     let x : g.row.H.Denot × _ = (c.args.head, c.args.list.now) in
-    let k = d.filled + length x.1 - d.filled in
-    let longs : length (put_mid d.filled k d.pool.now c.copy_from_slice.new.self) ≡ length d.pool.now = search rules in
     enters_new (same_entry g.H.PartialEq.eq g.T.PartialEq.eq) d.pool.now d.table.now d.part d.used d.filled c.self.invariant _ c.self.view_is x (sym c.number.ensures ∙ c.in_default.is)
-    (entry_self g.H.PartialEq.eq g.T.PartialEq.eq g.met.H.Exact.decides g.met.T.Exact.decides x) c.if-self.false c.if-list-self.false k _ c.copy_from_slice.ensures.after longs
+    c.if-self.false c.if-list-self.false _ (same_len_mid _ _ _ _ c.copy_from_slice.ensures.len) (entry_self g.H.PartialEq.eq g.T.PartialEq.eq g.met.H.Exact.decides g.met.T.Exact.decides x)
+    (copied_behind d.filled _ _ d.pool.now x.1 c.copy_from_slice.new.self (omega arith) c.self.invariant.in_pool (search rules))
