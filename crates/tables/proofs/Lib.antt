@@ -1,6 +1,6 @@
+pub mod Halving
 pub mod Inserting
 pub mod KeyOrder
 pub mod Picks
 pub mod Puts
-pub mod Searching
 pub mod Shifts

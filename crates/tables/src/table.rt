@@ -65,12 +65,20 @@ impl<'a, K: Ord + Copy, V: Copy> OrderedTable<'a, K, V> {
         ensures placed { Placed K.cmp self.now.pairs key.now result }
         ensures ordered { IsOrdered K.cmp self.now }
     {
-        let numbers = &self.order[..self.used as usize];
-        // Each number in use has a row, but a search may ask its closure of any number.
-        numbers.binary_search_by(|&n| match self.rows.get(n as usize) {
-            Some(row) => row.0.cmp(key),
-            None => Ordering::Greater,
-        })
+        // Not std's `binary_search_by`, which halves to the end: a key that is met ends this search.
+        let (mut low, mut high) = (0, self.len());
+        while low < high {
+            let middle = low + (high - low) / 2;
+            let Some(met) = self.at(middle) else {
+                return Err(low);
+            };
+            match key.cmp(&met.0) {
+                Ordering::Less => high = middle,
+                Ordering::Equal => return Ok(middle),
+                Ordering::Greater => low = middle + 1,
+            }
+        }
+        Err(low)
     }
 
     // The value of a key.

@@ -1,16 +1,21 @@
-use Rattle.std.proofs.Common.{rules, arith}
-use Rattle.std.proofs.lemmas.Grind.{common_steps}
-use Rattle.std.proofs.lemmas.Option.{slice_get_cases}
-use Rattle.std.proofs.lemmas.Fn.{always_returns_same}
-use Rattle.tables.proofs.Inserting.{wide, ordered}
-use Rattle.tables.proofs.Searching.{compares, searched}
+use Rattle.std.proofs.Common.{sym, ◌∙◌, arith}
+use Rattle.tables.proofs.Halving.{begins, never, meets, above, below, ends}
 use Rattle.tables.proofs.table.OrderedTable.place.Goals as goal
 
-pub returns-clause-placed : goal.returns-clause-placed
-returns-clause-placed g c =
-    let facts = c.binary_search_by.ensures in
-    let by = facts.position (compares g.K.Ord.cmp c.self.inside.rows.now c.args.key.now) (always_returns_same _ _ _ (λ a r f' called. (grind (arith, common_steps, slice_get_cases c.self.inside.rows.now a.0.now), search rules))) in
-    rw (← c.self.view_is) (searched g.met.K.Ord.total _ _ _ (wide c.self.invariant) c.self.invariant.rising c.binary_search_by.result facts.bound by)
+pub loop-low-init : goal.loop-low-init
+loop-low-init g c = begins _ c.len-high.ensures.ordered.rising c.len-high.ensures.count
 
-pub returns-clause-ordered : goal.returns-clause-ordered
-returns-clause-ordered g c = rw (← c.self.view_is) (ordered c.self.invariant (omega arith))
+pub returns-in_default-clause-placed : goal.returns-in_default-clause-placed
+returns-in_default-clause-placed g c = never c.loop-low.invariant _ (omega arith) (sym c.at.ensures ∙ c.in_default.is)
+
+pub loop-low-preserved-in-Less : goal.loop-low-preserved-in-Less
+loop-low-preserved-in-Less g c = below g.met.K.Ord.total c.loop-low.invariant _ _ (sym c.at.ensures ∙ c.in-Some.is) (omega arith) (sym c.cmp.ensures ∙ c.in-Less.is)
+
+pub returns-in-Equal-clause-placed : goal.returns-in-Equal-clause-placed
+returns-in-Equal-clause-placed g c = meets g.met.K.Ord.total c.loop-low.invariant _ _ (sym c.at.ensures ∙ c.in-Some.is) (sym c.cmp.ensures ∙ c.in-Equal.is)
+
+pub loop-low-preserved : goal.loop-low-preserved
+loop-low-preserved g c = above g.met.K.Ord.total c.loop-low.invariant _ _ (sym c.at.ensures ∙ c.in-Some.is) (omega arith) (omega arith) (sym c.cmp.ensures ∙ c.in-Greater.is)
+
+pub returns-clause-placed : goal.returns-clause-placed
+returns-clause-placed g c = ends c.loop-low.invariant (omega arith)
