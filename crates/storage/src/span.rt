@@ -22,14 +22,14 @@ fn same_list<T: Eq + Copy>(a: &[T], b: &[T]) -> bool
     if a.len() != b.len() {
         return false;
     }
-    let (a, a_rest) = a.split_at(a.len().min(IN_TURN));
-    let (b, b_rest) = b.split_at(a.len());
-    for (x, y) in a.iter().zip(b) {
-        if x != y {
+    let few = a.len().min(IN_TURN);
+    // The places stay a counted `for`: over `zip` the same comparisons took twice the time.
+    for i in 0..few {
+        if a[i] != b[i] {
             return false;
         }
     }
-    a_rest == b_rest
+    a[few..] == b[few..]
 }
 
 impl<H: Eq + Copy> Span<H> {
