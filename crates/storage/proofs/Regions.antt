@@ -1,7 +1,7 @@
 -- The regions of a delta list, of which no more than 64 are read.
 use Rattle.std.proofs.Common.{◌≡◌, ℕ, zero, suc, ◌+◌, ◌≤◌, min, Bool, true, false, ltb, leb, List, [], ◌∷◌, map, length, take, Some, sym, refl, ap, ◌∙◌, arith}
 use Rattle.std.proofs.lemmas.Bool.{ltb-true, ltb-false}
-use Rattle.std.proofs.lemmas.List.{length-map, take_all}
+use Rattle.std.proofs.lemmas.List.{length-map, take_all, take-map}
 use Rattle.spec.specs.Entries.{not_rising, unsorted, regions, lower, deltas_fault}
 use Rattle.storage.specs.declared.delta.Delta.{Delta}
 use Rattle.storage.specs.Deltas.{delta_of, deltas_of}
@@ -35,11 +35,6 @@ cut_first : (ns : List ℕ) → lower (unsorted (take 64 ns)) true ≡ lower (un
 cut_first [] = refl
 cut_first (n ∷ ns) = cut ns 63 1 n (omega arith)
 
-take_map : (k : ℕ) (ds : List Delta) → map (λ (d : Delta). d.region) (take k ds) ≡ take k (map (λ (d : Delta). d.region) ds)
-take_map zero ds = refl
-take_map (suc k) [] = refl
-take_map (suc k) (d ∷ ds) = ap (λ rs. d.region ∷ rs) (take_map k ds)
-
 -- the first 64 entries tell the fault of the list
 pub first_tell : (ds : List Delta) → lower (unsorted (map (λ (d : Delta). d.region) (take (min (length ds) 64) ds))) (ltb 64 (length ds)) ≡ deltas_fault (deltas_of ds)
 first_tell ds = go (ltb 64 (length ds)) refl ∙ (λ i. lower (unsorted (keys_are ds i)) (ltb 64 (sym (length-map ds delta_of) i)))
@@ -49,7 +44,7 @@ first_tell ds = go (ltb 64 (length ds)) refl ∙ (λ i. lower (unsorted (keys_ar
     go true e =
         let m : min (length ds) 64 ≡ 64 = omega (arith, ltb-true 64 (length ds) e) in
         (λ i. lower (unsorted (map (λ (d : Delta). d.region) (take (m i) ds))) (e i))
-        ∙ ap (λ ns. lower (unsorted ns) true) (take_map 64 ds)
+        ∙ ap (λ ns. lower (unsorted ns) true) (sym (take-map (λ (d : Delta). d.region) 64 ds))
         ∙ cut_first (map (λ (d : Delta). d.region) ds)
         ∙ (λ i. lower (unsorted (map (λ (d : Delta). d.region) ds)) (sym e i))
     go false e =

@@ -1,6 +1,6 @@
 -- Two lists that are compared from the front, pair by pair, up to a place, and from there on at once.
-use Rattle.std.proofs.Common.{◌≡◌, ℕ, ◌+◌, ◌<◌, Bool, true, false, not, ◌&&◌, List, length, get_or, take, drop, ◌-◌, sym, ◌∙◌, true≢false, arith}
-use Rattle.std.proofs.lemmas.List.{drop_more, take_all, length-drop}
+use Rattle.std.proofs.Common.{◌≡◌, ℕ, ◌+◌, ◌<◌, Bool, true, false, not, ◌&&◌, List, length, get_or, drop, sym, ◌∙◌, true≢false}
+use Rattle.std.proofs.lemmas.List.{drop_more}
 use Rattle.std.specs.Cmp.Lexicographic.{pointwise}
 
 module _ {A : Type 0} (eq : A → A → Bool) (xs ys : List A) (i : ℕ) (x y : A) (l : i < length xs) (m : i < length ys) (p : x ≡ get_or xs i x) (q : y ≡ get_or ys i y) where
@@ -22,7 +22,3 @@ module _ {A : Type 0} (eq : A → A → Bool) (xs ys : List A) (i : ℕ) (x y : 
       go : (t : Bool) → not t ≡ true → (t && pointwise eq (drop (i + 1) xs) (drop (i + 1) ys)) ≡ whole → false ≡ whole
       go false e h = h
       go true e h = absurd (true≢false (sym e))
-
--- a slice that is cut at the length is all that follows
-pub rest : {A : Type 0} (xs : List A) (n : ℕ) → take (length xs - n) (drop n xs) ≡ drop n xs
-rest xs n = take_all (length xs - n) (drop n xs) (omega (arith, length-drop n xs))

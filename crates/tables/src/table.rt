@@ -69,6 +69,7 @@ impl<'a, K: Ord + Copy, V: Copy> OrderedTable<'a, K, V> {
         let (mut low, mut high) = (0, self.len());
         while low < high {
             let middle = low + (high - low) / 2;
+            // Each place below the count has a pair, so that this way out is never taken.
             let Some(met) = self.at(middle) else {
                 return Err(low);
             };

@@ -1,6 +1,7 @@
 use Rattle.std.proofs.Common.{◌≡◌, drop, sym, refl, ap, ◌∙◌, arith}
 use Rattle.std.specs.Cmp.Lexicographic.{pointwise}
-use Rattle.storage.proofs.SameLists.{next, differs, rest}
+use Rattle.std.proofs.lemmas.List.{take_rest}
+use Rattle.storage.proofs.SameLists.{next, differs}
 use Rattle.storage.proofs.span.same_list.Goals as goal
 
 pub loop-i-init : goal.loop-i-init
@@ -18,5 +19,5 @@ pub returns : goal.returns
 returns g c =
     let i : c.min-few.result ≡ c.loop-i.i = omega arith in
     c.eq.ensures
-    ∙ (λ t. pointwise g.T.PartialEq.eq (rest c.args.a.now c.min-few.result t) (rest c.args.b.now c.min-few.result t))
+    ∙ (λ t. pointwise g.T.PartialEq.eq (take_rest c.args.a.now c.min-few.result t) (take_rest c.args.b.now c.min-few.result t))
     ∙ ap (λ n. pointwise g.T.PartialEq.eq (drop n c.args.a.now) (drop n c.args.b.now)) i ∙ c.loop-i.invariant
